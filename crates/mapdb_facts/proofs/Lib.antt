@@ -1,0 +1,8 @@
+pub mod Formed
+pub mod Tests
+pub mod Exact
+pub mod Atoms
+pub mod Joins
+pub mod Newness
+pub mod Next
+pub mod Ascending

@@ -1,0 +1,18 @@
+//! The operations of a mapping database, and the facts that a set of them makes.
+//!
+//! A [`Record`] tells that a space received a place from another record, with which rights. A [`Revocation`] takes
+//! rights from a part of a record, and an end closes a space; both are for good. These three are the operations, each
+//! an [`Op`]. [`check`] refuses what is not well-formed, and [`Facts`] keeps what well-formed operations say.
+#![tactic(auto)]
+
+mod checking;
+mod holding;
+pub mod laws;
+mod listing;
+mod names;
+mod operations;
+
+pub use checking::{OpFault, check};
+pub use holding::{AddFault, Facts};
+pub use names::{NUMBER_LIMIT, PROCESSOR_LIMIT, RecordId, Space};
+pub use operations::{Op, Record, Revocation};

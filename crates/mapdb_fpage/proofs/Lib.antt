@@ -1,0 +1,4 @@
+pub mod Tests
+pub mod Meets
+pub mod Parts
+pub mod Aligned

@@ -1,0 +1,5 @@
+pub mod Bounds
+pub mod RightSets
+pub mod Place
+pub mod Addresses
+pub mod Transfer

@@ -1,0 +1,10 @@
+pub mod Atoms
+pub mod Faults
+pub mod Bits
+pub mod Grow
+pub mod Entries
+pub mod Clashing
+pub mod Both
+pub mod Keys
+pub mod Lends
+pub mod Lawful

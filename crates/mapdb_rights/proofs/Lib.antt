@@ -1,0 +1,4 @@
+pub mod Sources
+pub mod Steps
+pub mod Walk
+pub mod Backed

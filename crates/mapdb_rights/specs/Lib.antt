@@ -1,0 +1,5 @@
+pub mod Right
+pub mod Frame
+pub mod PageRights
+pub mod Served
+pub mod Backing

@@ -1,0 +1,13 @@
+//! What a record of a mapping database gives: its rights at a page, and the frame that it reaches there.
+//!
+//! A record has at a page what it names and no revocation takes, as far as its parent has it at the source page; the
+//! first space's root has all. Both calls go from parent to parent in a loop, and take no memory.
+#![tactic(auto)]
+
+pub mod laws;
+mod walking;
+
+pub use walking::{frame_of, rights_of};
+
+#[cfg(test)]
+mod tests;

@@ -1,0 +1,71 @@
+-- What a line says.
+use Rattle.std.specs.Prelude.{ℕ, List, [], ◌∷◌, Bool, false, Option, Some, None, Result, Ok, Err, if◌then◌else◌, ◌==◌, codes}
+use Rattle.std.specs.Str.{bytes_eq}
+use Rattle.mapdb_script.specs.Lines.{without_return}
+use Rattle.mapdb_script.specs.Words.{words_of, one_of, three_of, six_of}
+use Rattle.mapdb_script.specs.Spellings.{◌>>=◌, or_fault, processor_at, space_at, address_at, base_at, fpage_at, send_at}
+use Rattle.mapdb_script.specs.declared.fault.LineFault.{LineFault}
+use Rattle.mapdb_script.specs.declared.fault.LineFault.TheVariants as fault
+use Rattle.mapdb_script.specs.declared.words.Keyword.{Keyword}
+use Rattle.mapdb_script.specs.declared.words.Keyword.TheVariants as keyword
+use Rattle.mapdb_script.specs.declared.lines.Line.{Line}
+use Rattle.mapdb_script.specs.declared.lines.Line.TheVariants as line
+
+-- processors N
+unfoldable pub processors_at : List (List ℕ) → Result Line LineFault
+processors_at words = do
+  word ← or_fault (one_of words) fault.Words
+  count ← processor_at word
+  Ok (line.Processors count)
+
+-- map P S SEND BASE R FPAGE
+unfoldable pub map_at : List (List ℕ) → Result Line LineFault
+map_at words = do
+  word ← or_fault (six_of words) fault.Words
+  processor ← processor_at word.0
+  sender ← space_at word.1
+  send ← send_at word.2
+  base ← base_at word.3
+  receiver ← space_at word.4
+  window ← fpage_at word.5
+  Ok (line.Map processor sender (record { send_base = base; page = send.0; rights = send.1 }) receiver window)
+
+-- rights P S ADDR
+unfoldable pub rights_query_at : List (List ℕ) → Result Line LineFault
+rights_query_at words = do
+  word ← or_fault (three_of words) fault.Words
+  processor ← processor_at word.0
+  space ← space_at word.1
+  address ← address_at word.2
+  Ok (line.Rights processor space address)
+
+-- the first word of a line
+abbrev pub keyword_of : List ℕ → Option Keyword
+keyword_of word =
+    if bytes_eq word (codes "processors") then Some keyword.Processors
+    else (if bytes_eq word (codes "map") then Some keyword.Map
+    else (if bytes_eq word (codes "rights") then Some keyword.Rights
+    else None))
+
+-- what a line with this first word says, by the words behind it
+unfoldable pub line_at : Option Keyword → List (List ℕ) → Result Line LineFault
+line_at None words = Err fault.Unknown
+line_at (Some keyword.Processors) words = processors_at words
+line_at (Some keyword.Map) words = map_at words
+line_at (Some keyword.Rights) words = rights_query_at words
+
+-- The first word begins with #.
+abbrev pub is_comment : List ℕ → Bool
+is_comment [] = false
+is_comment (b ∷ bytes) = b == 35
+
+-- A line without words and a comment say nothing.
+unfoldable pub said_at : List (List ℕ) → Result (Option Line) LineFault
+said_at [] = Ok None
+said_at (word ∷ words) =
+    if is_comment word then Ok None
+    else (line_at (keyword_of word) words >>= λ line. Ok (Some line))
+
+-- what a line says, given without its end
+unfoldable pub said_by : List ℕ → Result (Option Line) LineFault
+said_by bytes = said_at (words_of (without_return bytes))

@@ -1,0 +1,10 @@
+pub mod Limits
+pub mod Streams
+pub mod Faults
+pub mod Lines
+pub mod Words
+pub mod Spellings
+pub mod Grammar
+pub mod Reading
+pub mod Fronts
+pub mod Reply

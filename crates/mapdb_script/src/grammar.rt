@@ -1,0 +1,127 @@
+//! What a line of a script says.
+
+ghost use Rattle.std.specs.Prelude.{◌≡◌};
+ghost use Rattle.mapdb_script.specs.Lines.{without_return};
+ghost use Rattle.mapdb_script.specs.Words.{words_of};
+ghost use Rattle.mapdb_script.specs.Grammar.{processors_at, map_at, rights_query_at, keyword_of, is_comment, line_at, said_by};
+
+use crate::fault::LineFault;
+use crate::lines::Line;
+use crate::spellings::{address, base, fpage, processor, send, space};
+use crate::words::{Keyword, next_word, one_word, six_words, three_words};
+use mapdb_fpage::MapItem;
+
+/// A line without the byte 0D at its end.
+fn without_return(line: &[u8]) -> &[u8]
+    ensures { result.now ≡ without_return line.now }
+{
+    match line {
+        [front @ .., b'\r'] => front,
+        _ => line,
+    }
+}
+
+/// `processors N`.
+#[tactic(auto, unfolding(crate::specs::Grammar::processors_at))]
+fn processors_line(words: &[u8]) -> Result<Line, LineFault>
+    ensures { result ≡ processors_at (words_of words.now) }
+{
+    let Some(count) = one_word(words) else {
+        return Err(LineFault::Words);
+    };
+    let count = processor(count)?;
+    Ok(Line::Processors(count))
+}
+
+/// `map P S SEND BASE R FPAGE`.
+#[tactic(auto, unfolding(crate::specs::Grammar::map_at))]
+fn map_line(words: &[u8]) -> Result<Line, LineFault>
+    ensures { result ≡ map_at (words_of words.now) }
+{
+    let Some((at, sender, item, send_base, receiver, window)) = six_words(words) else {
+        return Err(LineFault::Words);
+    };
+    let at = processor(at)?;
+    let sender = space(sender)?;
+    let (page, rights) = send(item)?;
+    let send_base = base(send_base)?;
+    let receiver = space(receiver)?;
+    let window = fpage(window)?;
+    let item = MapItem {
+        send_base,
+        page,
+        rights,
+    };
+    Ok(Line::Map(at, sender, item, receiver, window))
+}
+
+/// `rights P S ADDR`.
+#[tactic(auto, unfolding(crate::specs::Grammar::rights_query_at))]
+fn rights_line(words: &[u8]) -> Result<Line, LineFault>
+    ensures { result ≡ rights_query_at (words_of words.now) }
+{
+    let Some((at, asked, byte)) = three_words(words) else {
+        return Err(LineFault::Words);
+    };
+    let at = processor(at)?;
+    let asked = space(asked)?;
+    let byte = address(byte)?;
+    Ok(Line::Rights(at, asked, byte))
+}
+
+/// What the first word says.
+fn keyword(word: &[u8]) -> Option<Keyword>
+    ensures { result ≡ keyword_of word.now }
+{
+    if word == b"processors".as_slice() {
+        Some(Keyword::Processors)
+    } else if word == b"map".as_slice() {
+        Some(Keyword::Map)
+    } else if word == b"rights".as_slice() {
+        Some(Keyword::Rights)
+    } else {
+        None
+    }
+}
+
+/// Whether the first word begins a comment.
+fn is_comment(word: &[u8]) -> bool
+    ensures { result ≡ is_comment word.now }
+{
+    match word {
+        [] => false,
+        [first, ..] => *first == b'#',
+    }
+}
+
+/// What a line says, by its first word and the bytes behind it.
+#[tactic(auto, unfolding(crate::specs::Grammar::line_at))]
+fn line_of(keyword: Option<Keyword>, words: &[u8]) -> Result<Line, LineFault>
+    ensures { result ≡ line_at keyword (words_of words.now) }
+{
+    match keyword {
+        None => Err(LineFault::Unknown),
+        Some(Keyword::Processors) => processors_line(words),
+        Some(Keyword::Map) => map_line(words),
+        Some(Keyword::Rights) => rights_line(words),
+    }
+}
+
+/// What a line says, given without the byte 0A at its end: none for a line without words and a comment, and else the
+/// line, or its first fault. It takes no memory.
+///
+/// The first word is looked at before the number of words, and that before the words from left to right.
+#[tactic(auto, unfolding(crate::specs::Grammar::said_by, crate::specs::Grammar::said_at))]
+pub fn parse_line(bytes: &[u8]) -> Result<Option<Line>, LineFault>
+    ensures { result ≡ said_by bytes.now }
+{
+    let line = without_return(bytes);
+    let Some((word, rest)) = next_word(line) else {
+        return Ok(None);
+    };
+    if is_comment(word) {
+        return Ok(None);
+    }
+    let line = line_of(keyword(word), rest)?;
+    Ok(Some(line))
+}

@@ -1,0 +1,23 @@
+//! The script engine, from bytes to bytes.
+//!
+//! A script is lines of bytes; each line that says something is a command or a query of a cluster of copies, and has a
+//! reply. [`parse_line`] reads one line, [`run`] a whole script, from a [`Source`] to a [`Sink`].
+#![tactic(auto)]
+
+mod fault;
+mod grammar;
+mod limits;
+mod lines;
+mod number;
+mod reading;
+mod replies;
+mod spellings;
+mod streams;
+mod words;
+mod writing;
+
+pub use fault::{LineFault, ScriptFault, Summary};
+pub use grammar::parse_line;
+pub use lines::Line;
+pub use streams::{Failed, FromRead, Sink, Source, ToWrite};
+pub use writing::write_all;

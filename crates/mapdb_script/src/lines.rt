@@ -1,0 +1,16 @@
+//! What the lines of a script say.
+
+use mapdb_facts::Space;
+use mapdb_fpage::{Fpage, MapItem};
+
+/// A line that says something: a command or a query, with the values of its words in their order.
+#[derive(Clone, Copy, Debug, PartialEq, Eq)]
+pub enum Line {
+    /// `processors N`: a cluster of so many copies.
+    Processors(u8),
+    /// `map P S SEND BASE R FPAGE`: at processor P, space S offers an item to space R, which takes it into a window,
+    /// or into nil.
+    Map(u8, Space, MapItem, Space, Option<Fpage>),
+    /// `rights P S ADDR`: at processor P, the rights of space S at a byte address.
+    Rights(u8, Space, u32),
+}

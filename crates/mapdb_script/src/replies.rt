@@ -1,0 +1,105 @@
+//! The texts of replies, without the end of their line.
+
+ghost use Rattle.std.specs.Prelude.{◌≡◌, ◌∷◌, ◌++◌, IfOk, string_bytes};
+ghost use Rattle.mapdb_script.specs.Reply.{name_text, frame_text, mapping_text, records_text, rights_text};
+
+use mapdb_facts::{RecordId, Space};
+use mapdb_fpage::Rights;
+use std::alloc::{AllocError, Global};
+
+/// Why a line does nothing. It is a reply, and the script goes on.
+#[derive(Clone, Copy, Debug, PartialEq, Eq)]
+pub enum Refusal {
+    /// The cluster has no such processor.
+    NoProcessor,
+    /// The space is over.
+    SpaceEnded(Space),
+    /// The first space takes no record.
+    RootSpace,
+    /// A record would need a number beyond the greatest.
+    NumbersSpent,
+    /// The copy would hold more operations than it may.
+    Full,
+}
+
+/// The name of a record: its number, a point, and its processor.
+fn name_text(alloc: Global, id: RecordId) -> Result<String, AllocError>
+    ensures { IfOk result (λ text. string_bytes text ≡ name_text id) }
+{
+    let number = id.number;
+    let processor = id.processor;
+    format!(in alloc; "{number}.{processor}")
+}
+
+/// `records` and the names, or `records none`.
+pub fn records_text(alloc: Global, ids: &[RecordId]) -> Result<String, AllocError>
+    ensures { IfOk result (λ text. string_bytes text ≡ records_text ids.now) }
+{
+    if ids.is_empty() {
+        return String::from_str(alloc, "records none");
+    }
+    let mut text = String::from_str(alloc, "records")?;
+    for id in ids {
+        text.push_str(" ")?;
+        text.push_str(name_text(alloc, *id)?.as_str())?;
+    }
+    Ok(text)
+}
+
+/// A frame, in at least five hexadecimal digits.
+#[tactic(auto, using(crate::proofs::ReplyLemmas::padded_frame))]
+fn frame_text(alloc: Global, frame: u32) -> Result<String, AllocError>
+    ensures { IfOk result (λ text. string_bytes text ≡ frame_text frame) }
+{
+    format!(in alloc; "{frame:05x}")
+}
+
+/// A frame and the rights to it.
+#[tactic(auto, using(crate::proofs::ReplyLemmas::letter_bytes))]
+fn mapping_text(alloc: Global, frame: u32, rights: Rights) -> Result<String, AllocError>
+    ensures { IfOk result (λ text. string_bytes text ≡ mapping_text frame rights) }
+{
+    let mut text = frame_text(alloc, frame)?;
+    let [read, write, execute] = rights.text();
+    text.push(':')?;
+    text.push(char::from(read))?;
+    text.push(char::from(write))?;
+    text.push(char::from(execute))?;
+    Ok(text)
+}
+
+/// `rights` and each frame with its rights, or `rights none`.
+pub fn rights_text(alloc: Global, mappings: &[(u32, Rights)]) -> Result<String, AllocError>
+    ensures { IfOk result (λ text. string_bytes text ≡ rights_text mappings.now) }
+{
+    if mappings.is_empty() {
+        return String::from_str(alloc, "rights none");
+    }
+    let mut text = String::from_str(alloc, "rights")?;
+    for (frame, rights) in mappings {
+        text.push_str(" ")?;
+        text.push_str(mapping_text(alloc, *frame, *rights)?.as_str())?;
+    }
+    Ok(text)
+}
+
+impl Refusal {
+    ghost use Rattle.std.specs.Prelude.{◌≡◌, IfOk, string_bytes};
+    ghost use Rattle.mapdb_script.specs.Reply.{refusal_text};
+
+    /// `refused` and what it is for.
+    pub fn text(self, alloc: Global) -> Result<String, AllocError>
+        ensures { IfOk result (λ text. string_bytes text ≡ refusal_text self) }
+    {
+        match self {
+            Refusal::NoProcessor => String::from_str(alloc, "refused no-processor"),
+            Refusal::SpaceEnded(space) => {
+                let number = space.number;
+                format!(in alloc; "refused space-ended {number}")
+            }
+            Refusal::RootSpace => String::from_str(alloc, "refused root-space"),
+            Refusal::NumbersSpent => String::from_str(alloc, "refused numbers-spent"),
+            Refusal::Full => String::from_str(alloc, "refused full"),
+        }
+    }
+}
