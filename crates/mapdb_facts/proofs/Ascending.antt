@@ -213,7 +213,7 @@ comes_next ops after None found = behind-last ops after found
 comes_next ops after (Some r) found = behind-next ops after r found
 
 -- the greatest number
-most_of : (xs : List Record) (r : Record) → IsAmong r xs → r.id.number ≤ greatest_number xs
+pub most_of : (xs : List Record) (r : Record) → IsAmong r xs → r.id.number ≤ greatest_number xs
 most_of [] r k = absurd k
 most_of (x ∷ xs) r (inl e) = subst (λ (s : Record). s.id.number ≤ max x.id.number (greatest_number xs)) e (omega arith)
 most_of (x ∷ xs) r (inr k) = let low : r.id.number ≤ greatest_number xs = most_of xs r k in omega arith

@@ -1,8 +1,8 @@
 -- The loop that adds the keys of one set to another.
-use Rattle.std.specs.Prelude.{◌≡◌, ◌↔◌, ◌⊎◌, ℕ, ◌+◌, length, Bool, true, false, cond, ◌||◌, List, [], ◌∷◌, refl}
+use Rattle.std.specs.Prelude.{◌≡◌, ◌↔◌, ◌⊎◌, length, Bool, true, false, cond, List, [], ◌∷◌, refl}
 use Rattle.std.proofs.Common.{sym, ◌∙◌, ap, subst, inl, inr, arith}
 use Rattle.std.specs.declared.cmp.Ordering.{Ordering}
-use Rattle.std.specs.Ordering.{eq_by_cmp, is_eq}
+use Rattle.std.specs.Ordering.{is_eq}
 use Rattle.std.specs.Cmp.{IsTotalOrder, both_ways, eq_by_cmp_equiv, tied_itself}
 use Rattle.std.specs.BTreeMap.{is_at}
 use Rattle.std.specs.BTreeSet.{BTreeSet, contains, Updates}
@@ -20,6 +20,7 @@ pub record Added {K : Type 0} (cmp : K → K → Ordering) (old others now : BTr
   pub between : IsBetween (contains cmp) old others now
   pub found : AllByRecursion (λ k. contains cmp others k ≡ true) rest
 
+-- before the loop, all is still to be added
 pub added_first : {K : Type 0} (cmp : K → K → Ordering) (old others : BTreeSet K) →
     AllByRecursion (λ k. contains cmp others k ≡ true) others.keys →
     Added cmp old others old others.keys
@@ -29,6 +30,7 @@ added_first cmp old others found = record {
   found = found;
 }
 
+-- after the loop, the union is there
 pub added_last : {K : Type 0} {cmp : K → K → Ordering} {old others now : BTreeSet K} →
     Added cmp old others now [] → IsUnion (contains cmp) old others now
 added_last {cmp =
@@ -42,6 +44,7 @@ turn : (b c : Bool) → cond b true c ≡ true → (b ≡ true) ⊎ (c ≡ true)
 turn true c h = inl refl
 turn false c h = inr h
 
+-- one key more was added
 pub added_next :
     {K : Type 0} {cmp : K → K → Ordering} (o : IsTotalOrder cmp) (exact : (a b : K) → is_at (cmp a) b ≡ true → a ≡ b) {old others now new : BTreeSet K} (k : K) (rest : List K) →
     Updates cmp now new k true → Added cmp old others now (k ∷ rest) → Added cmp old others new rest
@@ -63,6 +66,7 @@ added_next {cmp = cmp} o exact {others = others} {now} k rest u a = record {
   found = a.found.1;
 }
 
+-- a set without keys has no atom
 pub none_iff_empty : {K : Type 0} {cmp : K → K → Ordering} (o : IsTotalOrder cmp) (ks : List K) →
     (length ks ≡ 0) ↔ HasNone (has_key cmp) ks
 none_iff_empty o [] = (λ h x. refl, λ h. refl)

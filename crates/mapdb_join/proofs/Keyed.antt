@@ -29,6 +29,7 @@ absorbs true b h = refl
 absorbs false true h = sym (h refl)
 absorbs false false h = refl
 
+-- a test is not both false and true
 clashing : (t : Bool) → t ≡ false → t ≡ true → ⊥
 clashing t f h = true≢false (sym h ∙ f)
 
@@ -111,7 +112,7 @@ module _ {K V A : Type 0} {cmp : K → K → Ordering} {has : V → A → Bool} 
           where
             added : holds_key cmp now q ≡ false →
                 (has_under cmp has now (q, x) || has_under cmp has (e ∷ []) (q, x))
-                  ≡ has_under cmp has others (q, x)
+                ≡ has_under cmp has others (q, x)
             added h = elim (or_cases _ _ (sym (k q) ∙ held)) [
               | inl p ↦ absurd (clashing (holds_key cmp now q) h p)
               | inr p ↦

@@ -52,6 +52,7 @@ module _ {K V A : Type 0} {cmp : K → K → Ordering} (has : V → A → Bool) 
   refused_under (Err Memory) old new k v mine left at is h =
       ((λ c. h.0 (clash_down old k v mine at c)), is ∙ ap (set_value (is_at (cmp k)) old) h.1 ∙ set_value_same (is_at (cmp k)) old mine at)
 
+-- what a `get_mut` that answered found
 pub held_from_mut : {V : Type 0} {o : Option V} {r : Option (MutBor V)} {v : MutBor V} →
     r ≡ Some v → option_copied_mut r ≡ o → o ≡ Some v.now
 held_from_mut is h = sym h ∙ ap option_copied_mut is

@@ -1,10 +1,10 @@
 -- Loops that walk the entries of a map in order.
-use Rattle.std.specs.Prelude.{◌≡◌, ◌↔◌, ◌⊎◌, ℕ, ◌+◌, Bool, true, false, cond, ◌||◌, ◌&&◌, List, [], ◌∷◌, Option, Some, None, IsTrue, IfSome, refl}
+use Rattle.std.specs.Prelude.{◌≡◌, ◌↔◌, ◌⊎◌, Bool, true, false, cond, ◌||◌, ◌&&◌, List, [], ◌∷◌, Option, Some, None, IfSome, refl}
 use Rattle.std.proofs.Common.{sym, ◌∙◌, ap, subst, inl, inr, Bor}
 use Rattle.std.specs.Option.{option_copied}
 use Rattle.std.specs.declared.cmp.Ordering.{Ordering}
 use Rattle.std.specs.declared.cmp.Ordering.TheVariants.{Less}
-use Rattle.std.specs.Ordering.{is_eq, is_lt}
+use Rattle.std.specs.Ordering.{is_eq}
 use Rattle.std.specs.Cmp.{IsTotalOrder, both_ways, tied_itself}
 use Rattle.std.specs.BTreeMap.{is_at}
 use Rattle.std.specs.Map.{lookup, keys_of}
@@ -23,6 +23,7 @@ module _ {K V A : Type 0} (cmp : K → K → Ordering) (has : V → A → Bool) 
   in_entry p e = is_at (cmp p.0) e.0 && has e.1 p.1
 
 module _ {K V A : Type 0} (cmp : K → K → Ordering) (has : V → A → Bool) where
+  -- whether some entry has the atom
   abbrev pub any_entry : List (K × V) → K × A → Bool
   any_entry es p = list_any (in_entry cmp has p) es
 
@@ -185,56 +186,56 @@ pub record Parted {K V A : Type 0} (cmp : K → K → Ordering) (has : V → A �
   pub sorted : IsStrictlySortedBy cmp (keys_of rest)
 
 module _ {K V A : Type 0} {cmp : K → K → Ordering} {has : V → A → Bool} {excludes : A → A → Type 0}
-    where
-  pub parted_first : (map others : List (K × V)) → AreFound cmp others others →
-      IsStrictlySortedBy cmp (keys_of others) → Parted cmp has excludes map others others
-  parted_first map others f s =
-      record { left = λ k x y h i e. any_from_has cmp has others (k, y) i; found = f; sorted = s }
+  where
+    pub parted_first : (map others : List (K × V)) → AreFound cmp others others →
+        IsStrictlySortedBy cmp (keys_of others) → Parted cmp has excludes map others others
+    parted_first map others f s =
+        record { left = λ k x y h i e. any_from_has cmp has others (k, y) i; found = f; sorted = s }
 
-  pub parted_last : {map others : List (K × V)} → Parted cmp has excludes map others [] →
-      Clashes (has_under cmp has) (excludes_under excludes) map others → ⊥
-  parted_last {map} {others} a c =
-      true≢false (sym (a.left c.other.0 c.one.1 c.other.1 (subst (λ k. has_under cmp has map (k, c.one.1) ≡ true) c.apart.0 c.has_one) c.has_other c.apart.1))
+    pub parted_last : {map others : List (K × V)} → Parted cmp has excludes map others [] →
+        Clashes (has_under cmp has) (excludes_under excludes) map others → ⊥
+    parted_last {map} {others} a c =
+        true≢false (sym (a.left c.other.0 c.one.1 c.other.1 (subst (λ k. has_under cmp has map (k, c.one.1) ≡ true) c.apart.0 c.has_one) c.has_other c.apart.1))
 
-  module _ (exact : (a b : K) → is_at (cmp a) b ≡ true → a ≡ b) where
-    pub parted_next : {map others : List (K × V)} (e : K × V) (rest : List (K × V)) →
-        NoneApart cmp has excludes map e.0 e.1 → Parted cmp has excludes map others (e ∷ rest) →
-        Parted cmp has excludes map others rest
-    parted_next {map} e rest none a = record {
-      left = λ k x y h i d. elim (or_cases (in_entry cmp has (k, y) e) (any_entry cmp has rest (k, y)) (a.left k x y h i d)) [
-        | inl q ↦ let r = and_parts (is_at (cmp k) e.0) (has e.1 y) q in absurd (none x y (subst (λ z. has_under cmp has map (z, x) ≡ true) (exact k e.0 r.0) h) r.1 d)
-        | inr q ↦ q
-      ];
-      found = a.found.1;
-      sorted = sorted_tail cmp e.0 (keys_of rest) a.sorted;
-    }
-
-    pub parted_found :
-        {P : Type 0} {is_spot : V → V → P → Type 0} (o : IsTotalOrder cmp) {map others : List (K × V)} (e : K × V) (rest : List (K × V)) (s : P) →
-        IsClashUnder cmp has excludes is_spot map e.0 e.1 s →
-        Parted cmp has excludes map others (e ∷ rest) →
-        Clashes (has_under cmp has) (excludes_under excludes) map others × IsFirstClash cmp has excludes is_spot map others (e.0, s)
-    parted_found o {map} {others} e rest s u a = (
-      record {
-        one = (e.0, u.clash.one);
-        other = (e.0, u.clash.other);
-        has_one = ap (λ w. some_has has w u.clash.one) u.held ∙ u.clash.has_one;
-        has_other = ap (λ w. some_has has w u.clash.other) a.found.0 ∙ u.clash.has_other;
-        apart = (refl, u.clash.apart);
-      },
-      record {
-        first = u.mine;
-        second = e.1;
-        in_first = u.held;
-        in_second = a.found.0;
-        clash = u.clash;
-        there = u.there;
-        least = λ q x y l h i d. elim (or_cases (in_entry cmp has (q, y) e) (any_entry cmp has rest (q, y)) (a.left q x y h i d)) [
-          | inl r ↦ true≢false (sym (and_parts (is_at (cmp q) e.0) (has e.1 y) r).0 ∙ ap is_eq l)
-          | inr r ↦ above has o e rest (sorted_head cmp e.0 (keys_of rest) a.sorted) q y l r
+    module _ (exact : (a b : K) → is_at (cmp a) b ≡ true → a ≡ b) where
+      pub parted_next : {map others : List (K × V)} (e : K × V) (rest : List (K × V)) →
+          NoneApart cmp has excludes map e.0 e.1 → Parted cmp has excludes map others (e ∷ rest) →
+          Parted cmp has excludes map others rest
+      parted_next {map} e rest none a = record {
+        left = λ k x y h i d. elim (or_cases (in_entry cmp has (k, y) e) (any_entry cmp has rest (k, y)) (a.left k x y h i d)) [
+          | inl q ↦ let r = and_parts (is_at (cmp k) e.0) (has e.1 y) q in absurd (none x y (subst (λ z. has_under cmp has map (z, x) ≡ true) (exact k e.0 r.0) h) r.1 d)
+          | inr q ↦ q
         ];
-      },
-    )
+        found = a.found.1;
+        sorted = sorted_tail cmp e.0 (keys_of rest) a.sorted;
+      }
+
+      pub parted_found :
+          {P : Type 0} {is_spot : V → V → P → Type 0} (o : IsTotalOrder cmp) {map others : List (K × V)} (e : K × V) (rest : List (K × V)) (s : P) →
+          IsClashUnder cmp has excludes is_spot map e.0 e.1 s →
+          Parted cmp has excludes map others (e ∷ rest) →
+          Clashes (has_under cmp has) (excludes_under excludes) map others × IsFirstClash cmp has excludes is_spot map others (e.0, s)
+      parted_found o {map} {others} e rest s u a = (
+        record {
+          one = (e.0, u.clash.one);
+          other = (e.0, u.clash.other);
+          has_one = ap (λ w. some_has has w u.clash.one) u.held ∙ u.clash.has_one;
+          has_other = ap (λ w. some_has has w u.clash.other) a.found.0 ∙ u.clash.has_other;
+          apart = (refl, u.clash.apart);
+        },
+        record {
+          first = u.mine;
+          second = e.1;
+          in_first = u.held;
+          in_second = a.found.0;
+          clash = u.clash;
+          there = u.there;
+          least = λ q x y l h i d. elim (or_cases (in_entry cmp has (q, y) e) (any_entry cmp has rest (q, y)) (a.left q x y h i d)) [
+            | inl r ↦ true≢false (sym (and_parts (is_at (cmp q) e.0) (has e.1 y) r).0 ∙ ap is_eq l)
+            | inr r ↦ above has o e rest (sorted_head cmp e.0 (keys_of rest) a.sorted) q y l r
+          ];
+        },
+      )
 
 module _ {K V A : Type 0} {cmp : K → K → Ordering} (has : V → A → Bool)
     (exact : (a b : K) → is_at (cmp a) b ≡ true → a ≡ b) (o : IsTotalOrder cmp) where
@@ -245,7 +246,7 @@ module _ {K V A : Type 0} {cmp : K → K → Ordering} (has : V → A → Bool)
   covers_held map k v mine at = (
     (λ i p h. let q =
         from_one_at cmp has (is_at (cmp p.0) k) v p.1 h in ap (λ z. some_has has (lookup (is_at (cmp z)) map) p.1) (exact p.0 k q.0)
-          ∙ ap (λ w. some_has has w p.1) at ∙ i p.1 q.1),
+        ∙ ap (λ w. some_has has w p.1) at ∙ i p.1 q.1),
     (λ i x h. ap (λ w. some_has has w x) (sym at) ∙ i (k, x) (entry_has cmp has o k v x h)),
   )
 

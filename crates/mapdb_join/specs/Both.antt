@@ -35,4 +35,5 @@ module _ {S T A B P Q : Type 0}
   abbrev pub IsEitherSpot : Both S T → Both S T → OneOf P Q → Type 0
   IsEitherSpot a b (First s) = Clashes has_first one a.first b.first × is_first a.first b.first s
   IsEitherSpot a b (Second s) =
-      (Clashes has_first one a.first b.first → ⊥) × Clashes has_second two a.second b.second × is_second a.second b.second s
+      (Clashes has_first one a.first b.first → ⊥)
+      × Clashes has_second two a.second b.second × is_second a.second b.second s

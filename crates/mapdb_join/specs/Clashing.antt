@@ -1,5 +1,5 @@
 -- Where an entry clashes with a map.
-use Rattle.std.specs.Prelude.{◌≡◌, Bool, true, List, Option, Some}
+use Rattle.std.specs.Prelude.{◌≡◌, Bool, true, List, Some}
 use Rattle.std.specs.Map.{lookup}
 use Rattle.std.specs.declared.cmp.Ordering.{Ordering}
 use Rattle.std.specs.BTreeMap.{is_at}

@@ -39,7 +39,8 @@ pub record IsMap {K V : Type 0}
   pub sorted : IsStrictlySortedBy cmp (keys_of es)
   pub all : AllByRecursion (λ e. is_key e.0 × is_value e.1) es
 
--- the spot's key is the least under which a and b clash, and its rest is where the values under it clash
+-- the spot's key is the least under which a and b clash,
+-- and its rest is where the values under it clash
 pub record IsFirstClash {K V A P : Type 0}
     (cmp : K → K → Ordering) (has : V → A → Bool) (excludes : A → A → Type 0)
     (is_spot : V → V → P → Type 0) (a b : List (K × V)) (s : K × P) : Type 0 where
@@ -66,7 +67,8 @@ pub record ChangesAlone {K V A : Type 0} (cmp : K → K → Ordering) (has : V �
   pub others : (q : K) (x : A) → is_at (cmp k) q ≡ false →
       has_under cmp has new (q, x) ≡ has_under cmp has old (q, x)
 
--- what a merge that wanted memory leaves: its keys lie between the old ones and those of both, and the value under a new key is whole
+-- what a merge that wanted memory leaves: its keys lie between the old ones and those of both,
+-- and the value under a new key is whole
 pub record IsPartMerged {K V A : Type 0} (cmp : K → K → Ordering) (has : V → A → Bool)
     (old other new : List (K × V)) : Type 0 where
   pub keys : IsBetween (holds_key cmp) old other new

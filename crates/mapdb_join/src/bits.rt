@@ -81,7 +81,8 @@ impl Merge for BitsOr {
 
     /// Takes no memory and is never refused.
     fn merge(&mut self, other: &BitsOr) -> Result<(), MergeFault<()>>
-        ensures ok { OnOk result (IsUnion has_bit self.old other.now self.new × (Clashes has_bit (λ _ _. ⊥) self.old other.now → ⊥)) }
+        ensures ok { OnOk result (IsUnion has_bit self.old other.now self.new
+            × (Clashes has_bit (λ _ _. ⊥) self.old other.now → ⊥)) }
         ensures never_refused { IsOk result }
     {
         self.bits |= other.bits;

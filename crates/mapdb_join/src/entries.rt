@@ -12,7 +12,8 @@ use std::collections::BTreeMap;
 
 // Whether the map covers one entry.
 fn covers_one<K: Ord + Exact, V: Merge>(map: &BTreeMap<K, V>, key: &K, theirs: &V) -> bool
-    ensures { IsTrue result ↔ Includes (has_under K.cmp V.has) map.now.entries ((key.now, theirs.now) ∷ []) }
+    ensures { IsTrue result
+        ↔ Includes (has_under K.cmp V.has) map.now.entries ((key.now, theirs.now) ∷ []) }
 {
     match map.get(key) {
         Some(mine) => mine.covers(theirs),
@@ -53,8 +54,11 @@ fn clash_under<K: Ord + Exact, V: Merge>(
     key: &K,
     theirs: &V,
 ) -> Option<V::Spot>
-    ensures none { MatchOption result (NoneApart K.cmp V.has V.excludes map.now.entries key.now theirs.now) (λ _. Unit {0}) }
-    ensures some { IfSome result (IsClashUnder K.cmp V.has V.excludes V.is_spot map.now.entries key.now theirs.now) }
+    ensures none { MatchOption result
+        (NoneApart K.cmp V.has V.excludes map.now.entries key.now theirs.now)
+        (λ _. Unit {0}) }
+    ensures some { IfSome result
+        (IsClashUnder K.cmp V.has V.excludes V.is_spot map.now.entries key.now theirs.now) }
 {
     match map.get(key) {
         Some(mine) => mine.clash(theirs),
@@ -67,8 +71,15 @@ pub(crate) fn first_clash<K: Ord + Exact, V: Merge>(
     map: &BTreeMap<K, V>,
     other: &BTreeMap<K, V>,
 ) -> Option<(K, V::Spot)>
-    ensures none { MatchOption result (Clashes (has_under K.cmp V.has) (excludes_under V.excludes) map.now.entries other.now.entries → ⊥) (λ _. Unit {0}) }
-    ensures some { IfSome result (λ s. Clashes (has_under K.cmp V.has) (excludes_under V.excludes) map.now.entries other.now.entries × IsFirstClash K.cmp V.has V.excludes V.is_spot map.now.entries other.now.entries s) }
+    ensures none { MatchOption result
+        (Clashes (has_under K.cmp V.has) (excludes_under V.excludes)
+        map.now.entries other.now.entries → ⊥)
+        (λ _. Unit {0}) }
+    ensures some { IfSome result (λ s.
+        Clashes (has_under K.cmp V.has) (excludes_under V.excludes)
+        map.now.entries other.now.entries
+        × IsFirstClash K.cmp V.has V.excludes V.is_spot
+        map.now.entries other.now.entries s) }
 {
     for (key, theirs) in other {
         if let Some(spot) = clash_under(map, key, theirs) {
@@ -85,9 +96,12 @@ fn merge_one<K: Ord + Exact, V: Merge>(
     value: &V,
 ) -> Result<(), AllocError>
     requires { IfSome (get K.cmp map.old key) (λ mine. Clashes V.has V.excludes mine value.now → ⊥) }
-    ensures ok { OnOk result (IsUnion (has_under K.cmp V.has) map.old.entries ((key, value.now) ∷ []) map.new.entries) }
-    ensures keys { OnOk result (IsUnion (holds_key K.cmp) map.old.entries ((key, value.now) ∷ []) map.new.entries) }
-    ensures err { OnErr result (IsBetween (has_under K.cmp V.has) map.old.entries ((key, value.now) ∷ []) map.new.entries) }
+    ensures ok { OnOk result (IsUnion (has_under K.cmp V.has)
+        map.old.entries ((key, value.now) ∷ []) map.new.entries) }
+    ensures keys { OnOk result (IsUnion (holds_key K.cmp)
+        map.old.entries ((key, value.now) ∷ []) map.new.entries) }
+    ensures err { OnErr result (IsBetween (has_under K.cmp V.has)
+        map.old.entries ((key, value.now) ∷ []) map.new.entries) }
     ensures keys_stay { OnErr result (IsSame (holds_key K.cmp) map.old.entries map.new.entries) }
 {
     if let Some(mine) = map.get_mut(&key) {
@@ -107,10 +121,14 @@ pub(crate) fn merge_all<K: Ord + Exact, V: Merge>(
     other: &BTreeMap<K, V>,
 ) -> Result<(), AllocError>
     requires { Clashes (has_under K.cmp V.has) (excludes_under V.excludes) map.old.entries other.now.entries → ⊥ }
-    ensures ok { OnOk result (IsUnion (has_under K.cmp V.has) map.old.entries other.now.entries map.new.entries) }
-    ensures keys { OnOk result (IsUnion (holds_key K.cmp) map.old.entries other.now.entries map.new.entries) }
-    ensures err { OnErr result (IsBetween (has_under K.cmp V.has) map.old.entries other.now.entries map.new.entries) }
-    ensures part { OnErr result (IsPartMerged K.cmp V.has map.old.entries other.now.entries map.new.entries) }
+    ensures ok { OnOk result (IsUnion (has_under K.cmp V.has)
+        map.old.entries other.now.entries map.new.entries) }
+    ensures keys { OnOk result (IsUnion (holds_key K.cmp)
+        map.old.entries other.now.entries map.new.entries) }
+    ensures err { OnErr result (IsBetween (has_under K.cmp V.has)
+        map.old.entries other.now.entries map.new.entries) }
+    ensures part { OnErr result (IsPartMerged K.cmp V.has
+        map.old.entries other.now.entries map.new.entries) }
 {
     for (key, value) in other {
         merge_one(map, *key, value)?;

@@ -1,5 +1,6 @@
 // Values that contracts can tell apart as a program does.
 ghost use Rattle.std.specs.Prelude.{◌≡◌, ◌<◌, ◌^◌, true};
+ghost use Rattle.std.specs.Cmp.{booleans_Decides};
 ghost use Rattle.std.proofs.lemmas.Bool.{eqb-true};
 ghost use Rattle.mapdb_join.specs.Lawful.Exact.{exact_pair};
 
@@ -83,6 +84,16 @@ impl Representable for usize {
 
 impl Exact for usize {
     ghost exact = { eqb-true };
+}
+
+impl Representable for bool {
+    ghost is_value = { λ _. Unit {0} };
+
+    fn prove_value(&self) {}
+}
+
+impl Exact for bool {
+    ghost exact = { λ a b. (booleans_Decides a b).0 };
 }
 
 impl<A: Representable, B: Representable> Representable for (A, B) {

@@ -74,8 +74,10 @@ impl<T: Exact> Merge for Flat<T> {
 
     /// Takes no memory and never changes the value: it is refused where the values differ.
     fn merge(&mut self, other: &Flat<T>) -> Result<(), MergeFault<()>>
-        ensures ok { OnOk result (IsUnion T.eq self.old other.now self.new × (Clashes T.eq (λ x y. x ≢ y) self.old other.now → ⊥)) }
-        ensures err { IfErr result (FaultLeaves T.eq (λ x y. x ≢ y) (λ _ _ _. Unit {0}) self.old other.now self.new) }
+        ensures ok { OnOk result (IsUnion T.eq self.old other.now self.new
+            × (Clashes T.eq (λ x y. x ≢ y) self.old other.now → ⊥)) }
+        ensures err { IfErr result (FaultLeaves T.eq (λ x y. x ≢ y) (λ _ _ _. Unit {0})
+            self.old other.now self.new) }
         ensures kept { self.new ≡ self.old }
         ensures never_memory { IfErr result (λ fault. fault ≡ MergeFault.Clash tt) }
     {

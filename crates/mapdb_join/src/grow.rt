@@ -1,7 +1,8 @@
 // A set that grows.
-ghost use Rattle.std.specs.Prelude.{◌≡◌, ◌∷◌, [], not, List, IfOk, OnOk, OnErr, refl};
+ghost use Rattle.std.specs.Prelude.{◌≡◌, ◌∷◌, [], false, not, List, IfOk, IfErr, OnOk, OnErr, refl};
 ghost use Rattle.std.specs.BTreeSet.{contains, insert_key};
-ghost use Rattle.mapdb_join.specs.Atoms.{IsUnion, IsBetween};
+ghost use Rattle.mapdb_join.specs.Atoms.{Includes, IsUnion, IsBetween, Clashes};
+ghost use Rattle.mapdb_join.specs.Faults.{FaultLeaves};
 ghost use Rattle.mapdb_join.specs.Grow.{has_key, IsKeySet};
 ghost use Rattle.mapdb_join.specs.Lawful.Bits.{no_exclusion};
 ghost use Rattle.mapdb_join.specs.Lawful.Exact.{exact_cmp};
@@ -14,7 +15,7 @@ use std::collections::BTreeSet;
 use std::marker::Model;
 
 /// A set of keys, in their order, that only grows. No key excludes another, so no two sets clash.
-#[derive(Debug, Drop)]
+#[derive(Clone, Debug, Drop)]
 pub struct Grow<K: Ord> {
     alloc: Global,
     keys: BTreeSet<K>,
@@ -29,7 +30,8 @@ impl<K: Ord> Model for Grow<K> {
 }
 
 impl<K: Ord + Exact> Grow<K> {
-    /// The empty set, which takes what memory it will need from the allocator. It takes none itself.
+    /// The empty set, which takes what memory it will need from the allocator. It takes none
+    /// itself.
     pub fn new(alloc: Global) -> Grow<K>
         ensures { result ≡ [] }
     {
@@ -48,12 +50,13 @@ impl<K: Ord + Exact> Grow<K> {
 
     /// Adds a key, and answers whether it was new.
     ///
-    /// The only error is want of memory, and then nothing has changed.
+    /// The only error is want of memory, and then the key is new and nothing has changed.
     pub fn add(&mut self, key: K) -> Result<bool, AllocError>
         ensures new { IfOk result (λ new. new ≡ not (has_key K.cmp self.old key)) }
         ensures ok { OnOk result (self.new ≡ insert_key K.cmp self.old key) }
         ensures atoms { OnOk result (IsUnion (has_key K.cmp) self.old (key ∷ []) self.new) }
         ensures err { OnErr result (self.new ≡ self.old) }
+        ensures absent { OnErr result (has_key K.cmp self.old key ≡ false) }
     {
         Ok(self.keys.insert(key)?)
     }
@@ -63,6 +66,7 @@ impl<K: Ord + Exact> Grow<K> {
 fn add_all<K: Ord + Exact>(keys: &mut BTreeSet<K>, others: &BTreeSet<K>) -> Result<(), AllocError>
     ensures ok { OnOk result (IsUnion (contains K.cmp) keys.old others.now keys.new) }
     ensures err { OnErr result (IsBetween (contains K.cmp) keys.old others.now keys.new) }
+    ensures lacks { OnErr result (¬ (Includes (contains K.cmp) keys.old others.now)) }
 {
     for key in others {
         keys.insert(*key)?;
@@ -108,7 +112,14 @@ impl<K: Ord + Exact> Merge for Grow<K> {
         None
     }
 
-    fn merge(&mut self, other: &Grow<K>) -> Result<(), MergeFault<()>> {
+    /// Wants memory only where a key is new, and has no other fault.
+    fn merge(&mut self, other: &Grow<K>) -> Result<(), MergeFault<()>>
+        ensures ok { OnOk result (IsUnion (has_key K.cmp) self.old other.now self.new
+            × (Clashes (has_key K.cmp) (λ _ _. ⊥) self.old other.now → ⊥)) }
+        ensures err { IfErr result (FaultLeaves (has_key K.cmp) (λ _ _. ⊥) (λ _ _ _. Unit {0})
+            self.old other.now self.new) }
+        ensures lacks { OnErr result (¬ (Includes (has_key K.cmp) self.old other.now)) }
+    {
         match add_all(&mut self.keys, &other.keys) {
             Ok(()) => Ok(()),
             Err(_) => Err(MergeFault::Memory),

@@ -31,7 +31,8 @@ pub fn commutative<T: Merge>()
 
 /// Three values have one union, whichever two are united first.
 pub fn associative<T: Merge>()
-    ensures { (a b c ab bc d : T) → IsUnion T.has a b ab → IsUnion T.has b c bc → IsUnion T.has ab c d → IsUnion T.has a bc d }
+    ensures { (a b c ab bc d : T) → IsUnion T.has a b ab → IsUnion T.has b c bc →
+        IsUnion T.has ab c d → IsUnion T.has a bc d }
 {}
 
 /// The union of a value with itself is itself.
@@ -46,19 +47,23 @@ pub fn least_upper_bound<T: Merge>()
 
 /// Where two values clash, no value covers both, not even one that no program can have.
 pub fn clash_has_no_upper_bound<T: Merge>()
-    ensures { (a b c : T) → Clashes T.has T.excludes a b → Includes T.has c a → Includes T.has c b → ⊥ }
+    ensures { (a b c : T) → Clashes T.has T.excludes a b →
+        Includes T.has c a → Includes T.has c b → ⊥ }
 {}
 
 /// Where two values of a program do not clash, a program can have their least upper bound.
 pub fn bound_where_no_clash<T: Merge>()
-    ensures { (a b : T) → T.is_value a → T.is_value b → (Clashes T.has T.excludes a b → ⊥) → (c : T) × T.is_value c × IsLeastUpperBound T.has a b c }
+    ensures { (a b : T) → T.is_value a → T.is_value b → (Clashes T.has T.excludes a b → ⊥) →
+        (c : T) × T.is_value c × IsLeastUpperBound T.has a b c }
 {}
 
 /// Two values at hand have a common upper bound exactly where they do not clash: where they clash
 /// no value covers both, and where they do not a program can have the least one that does.
 pub fn bound_exactly_where_no_clash<T: Merge>(a: &T, b: &T)
-    ensures none { (c : T) → Clashes T.has T.excludes a.now b.now → Includes T.has c a.now → Includes T.has c b.now → ⊥ }
-    ensures some { (Clashes T.has T.excludes a.now b.now → ⊥) → (c : T) × T.is_value c × IsLeastUpperBound T.has a.now b.now c }
+    ensures none { (c : T) → Clashes T.has T.excludes a.now b.now →
+        Includes T.has c a.now → Includes T.has c b.now → ⊥ }
+    ensures some { (Clashes T.has T.excludes a.now b.now → ⊥) →
+        (c : T) × T.is_value c × IsLeastUpperBound T.has a.now b.now c }
 {
     a.prove_value();
     b.prove_value();
@@ -72,20 +77,25 @@ pub fn one_spot<T: Merge>()
 /// An entry that changes under a key of a map changes the atoms under that key alone. `get_mut` and
 /// `insert` of `JoinMap` change one entry.
 pub fn changed_entry<K: Ord + Exact, V: Merge>()
-    ensures { (old new : List (K × V)) (k : K) (v : V) → IsChangedAt K.cmp old new k v → ChangesAlone K.cmp V.has old new k v }
+    ensures { (old new : List (K × V)) (k : K) (v : V) →
+        IsChangedAt K.cmp old new k v → ChangesAlone K.cmp V.has old new k v }
 {}
 
 /// Where the value under a key becomes its union with a part, the map becomes its union with the
 /// map that has this part alone under this key. So a union deep in nested maps is one of the whole.
 pub fn union_under_key<K: Ord + Exact, V: Merge>()
-    ensures { (old new : List (K × V)) (k : K) (v part w : V) → lookup (is_at (K.cmp k)) old ≡ Some v → IsChangedAt K.cmp old new k w → IsUnion V.has v part w → IsUnion (has_under K.cmp V.has) old ((k, part) ∷ []) new }
+    ensures { (old new : List (K × V)) (k : K) (v part w : V) →
+        lookup (is_at (K.cmp k)) old ≡ Some v → IsChangedAt K.cmp old new k w →
+        IsUnion V.has v part w → IsUnion (has_under K.cmp V.has) old ((k, part) ∷ []) new }
 {}
 
 /// The least value that covers both, or `None` where no value does. The only error is want of
 /// memory.
 pub fn least_above<T: Merge>(a: &T, b: &T) -> Result<Option<T>, AllocError>
     ensures bound { IfOk result (λ o. IfSome o (λ c. IsLeastUpperBound T.has a.now b.now c)) }
-    ensures none { IfOk result (λ o. MatchOption o (Clashes T.has T.excludes a.now b.now) (λ _. Clashes T.has T.excludes a.now b.now → ⊥)) }
+    ensures none { IfOk result (λ o. MatchOption o
+        (Clashes T.has T.excludes a.now b.now)
+        (λ _. Clashes T.has T.excludes a.now b.now → ⊥)) }
 {
     if let Some(_) = a.clash(b) {
         return Ok(None);

@@ -26,7 +26,7 @@ use std::ops::Bound;
 ///
 /// A key may have a value without atoms: it counts for `get`, `next` and `last`, and has no part in
 /// `covers`, `clash` and `is_none`.
-#[derive(Debug, Drop)]
+#[derive(Clone, Debug, Drop)]
 pub struct JoinMap<K: Ord, V> {
     pub(crate) alloc: Global,
     pub(crate) map: BTreeMap<K, V>,

@@ -49,14 +49,16 @@ pub trait Merge: Representable + Drop {
     /// Where the two values clash first, and `None` where they do not clash.
     fn clash(&self, other: &Self) -> Option<Self::Spot>
         ensures none { IfNone result (Clashes has excludes self.now other.now → ⊥) }
-        ensures some { IfSome result (λ s. Clashes has excludes self.now other.now × is_spot self.now other.now s) };
+        ensures some { IfSome result (λ s. Clashes has excludes self.now other.now
+            × is_spot self.now other.now s) };
 
     /// Adds the other's atoms: leaves exactly the union.
     ///
     /// [`MergeFault::Clash`] comes exactly where the two clash, names the spot that `clash` names
     /// and changes nothing. [`MergeFault::Memory`] comes only where they do not clash.
     fn merge(&mut self, other: &Self) -> Result<(), MergeFault<Self::Spot>>
-        ensures ok { OnOk result (IsUnion has self.old other.now self.new × (Clashes has excludes self.old other.now → ⊥)) }
+        ensures ok { OnOk result (IsUnion has self.old other.now self.new
+            × (Clashes has excludes self.old other.now → ⊥)) }
         ensures err { IfErr result (FaultLeaves has excludes is_spot self.old other.now self.new) };
 
     /// Whether this value has no atom.
@@ -67,7 +69,8 @@ pub trait Merge: Representable + Drop {
     fn copy(&self) -> Result<Self, AllocError>
         ensures { IfOk result (λ c. IsSame has self.now c) };
 
-    /// Exclusion is symmetric, no atom excludes itself, and no value has two atoms that exclude each other.
+    /// Exclusion is symmetric, no atom excludes itself, and no value has two atoms that exclude
+    /// each other.
     ghost exclusion: { IsExclusion has excludes };
 
     /// Two values of a program that do not clash have a union that a program can have.

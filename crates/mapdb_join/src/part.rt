@@ -1,10 +1,11 @@
 // Values that take one part at a time.
-ghost use Rattle.std.specs.Prelude.{◌≡◌, [], ◌∷◌, false, OnOk, IfOk, IfErr, IsOk, IsOkAnd};
+ghost use Rattle.std.specs.Prelude.{◌≡◌, [], ◌∷◌, false, OnOk, OnErr, IfOk, IfErr, IsOk, IsOkAnd};
 ghost use Rattle.std.specs.Map.{lookup};
 ghost use Rattle.std.specs.BTreeMap.{is_at};
 ghost use Rattle.mapdb_join.specs.Atoms.{IsSame, IsUnion, Clashes};
 ghost use Rattle.mapdb_join.specs.Bits.{has_bit};
 ghost use Rattle.mapdb_join.specs.Entries.{has_under, holds_key, excludes_under};
+ghost use Rattle.mapdb_join.specs.Grow.{has_key};
 ghost use Rattle.mapdb_join.specs.Faults.{FaultKeeps};
 
 use crate::bits::BitsOr;
@@ -87,7 +88,13 @@ impl<K: Ord + Exact> MergePart for Grow<K> {
 
     ghost alone = { λ k. k ∷ [] };
 
-    fn merge_part(&mut self, part: K) -> Result<(), MergeFault<()>> {
+    /// Wants memory only where the key is new, and has no other fault.
+    fn merge_part(&mut self, part: K) -> Result<(), MergeFault<()>>
+        ensures ok { OnOk result (IsUnion (has_key K.cmp) self.old (part ∷ []) self.new
+            × (Clashes (has_key K.cmp) (λ _ _. ⊥) self.old (part ∷ []) → ⊥)) }
+        ensures err { IfErr result (FaultKeeps (has_key K.cmp) (λ _ _. ⊥) self.old (part ∷ []) self.new) }
+        ensures absent { OnErr result (has_key K.cmp self.old part ≡ false) }
+    {
         match self.add(part) {
             Ok(_) => Ok(()),
             Err(_) => Err(MergeFault::Memory),

@@ -125,6 +125,7 @@ fn join_merge_map(rt: HostRuntime) -> Result<(), Fail> {
     more.insert(3, Flat::new(30))?;
     assert!(rt; merges_twice(&mut map, &more)?);
     assert!(rt; map.entries().len() == 3);
+    assert!(rt; map.clone()?.covers(&map));
     let mut wrong = JoinMap::new(alloc);
     wrong.insert(2, Flat::new(20))?;
     wrong.insert(3, Flat::new(31))?;
@@ -165,6 +166,7 @@ fn parts(rt: HostRuntime) -> Result<(), Fail> {
     assert!(rt; takes_its_part::<Flat<u32>>(alloc, 3)?);
     assert!(rt; takes_its_part::<BitsOr>(alloc, 3)?);
     assert!(rt; takes_its_part::<Grow<usize>>(alloc, 3)?);
+    assert!(rt; takes_its_part::<JoinMap<bool, Grow<usize>>>(alloc, (true, 3))?);
     assert!(rt;
         takes_its_part::<JoinMap<u64, JoinMap<(u8, u16), BitsOr>>>(alloc, (1, ((2, 3), 4)))?
     );

@@ -1,13 +1,19 @@
-// A library with one function.
+//! One copy of the mapping database: what it holds, and what it issues.
+//!
+//! A [`Replica`] keeps the operations of one processor's copy in order of arrival. A Map issues records under the
+//! copy's own processor; queries answer from what the copy holds.
 #![tactic(auto)]
 
-ghost use Rattle.std.specs.Prelude.{◌≡◌};
-ghost use Rattle.mapdb_replica.specs.Echo.{echo_of};
+mod faults;
+mod page_rights;
+mod pieces;
+mod replicas;
 
-// The `ensures` clause is the contract: what `echo` returns is `echo_of` of its argument, a definition
-// in `specs/Echo.antt`, which a caller's clause can cite too.
-pub fn echo(x: usize) -> usize
-    ensures { result ≡ echo_of x }
-{
-    x
-}
+pub mod laws;
+
+pub use faults::{IssueFault, MOST_OPERATIONS};
+pub use pieces::{Holder, Piece};
+pub use replicas::Replica;
+
+#[cfg(test)]
+mod tests;

@@ -2,3 +2,5 @@ pub mod NumberLemmas
 pub mod WordLemmas
 pub mod LineLemmas
 pub mod ReplyLemmas
+pub mod RunLemmas
+pub mod ClusterLemmas

@@ -1,10 +1,10 @@
 -- The lines of a text, from the front.
-use Rattle.std.proofs.Common.{◌≡◌, ◌≢◌, ℕ, ◌+◌, ◌<◌, ◌≤◌, Bool, true, false, List, [], ◌∷◌, ◌++◌, length, cond, refl, sym, ap, ◌∙◌, arith, take, drop, append_assoc, ◌-◌, length-drop, length-append, min, ◌⊎◌, inl, inr}
+use Rattle.std.proofs.Common.{◌≡◌, ℕ, ◌+◌, ◌<◌, ◌≤◌, Bool, true, false, List, [], ◌∷◌, ◌++◌, length, cond, refl, sym, ap, ◌∙◌, arith, drop, append_assoc, ◌-◌, length-drop, length-append, min, ◌⊎◌, inl, inr}
 use Rattle.std.proofs.lemmas.List.{drop-take, drop-drop, append-nil}
 use Rattle.std.proofs.Math.ListN.{drop_of_length-le, length-take}
 use Rattle.std.proofs.lemmas.Bool.{lt-ltb}
 use Rattle.std.proofs.lemmas.Bool.Decides.{nat_tests}
-use Rattle.std.specs.Prelude.{◌==◌, ◌||◌, slice_range, nat_lt, if◌then◌else◌, Option, Some, None, Result, Ok, Err, OnErr}
+use Rattle.std.specs.Prelude.{◌==◌, ◌||◌, slice_range, nat_lt, Option, Some, None, Result, Ok, Err, OnErr}
 use Rattle.std.specs.Io.KnownBytes.{Consumes, Appends, Keeps}
 use Rattle.mapdb_script.specs.Lines.{onto_first, lines_of, before, beyond, HasNoEnd}
 use Rattle.mapdb_script.specs.Words.{is_filled}

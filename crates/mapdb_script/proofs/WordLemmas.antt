@@ -1,6 +1,6 @@
 -- The words of a line, from the front.
-use Rattle.std.proofs.Common.{◌≡◌, ◌≢◌, ℕ, ◌+◌, ◌<◌, ◌≤◌, Bool, true, false, List, [], ◌∷◌, ◌++◌, length, Option, Some, None, cond, refl, sym, ap, ◌∙◌, arith, take, drop, get_or}
-use Rattle.std.specs.Prelude.{◌==◌, filter, if◌then◌else◌}
+use Rattle.std.proofs.Common.{◌≡◌, ℕ, ◌<◌, Bool, true, false, List, [], ◌∷◌, length, Some, None, cond, refl, sym, ap, ◌∙◌, arith, drop}
+use Rattle.std.specs.Prelude.{◌==◌, filter}
 use Rattle.mapdb_script.specs.Lines.{onto_first, before, beyond}
 use Rattle.mapdb_script.specs.Words.{parts_of, words_of, is_filled, behind_spaces, cut_by}
 

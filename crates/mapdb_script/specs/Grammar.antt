@@ -6,8 +6,8 @@ use Rattle.mapdb_script.specs.Words.{words_of, one_of, three_of, six_of}
 use Rattle.mapdb_script.specs.Spellings.{◌>>=◌, or_fault, processor_at, space_at, address_at, base_at, fpage_at, send_at}
 use Rattle.mapdb_script.specs.declared.fault.LineFault.{LineFault}
 use Rattle.mapdb_script.specs.declared.fault.LineFault.TheVariants as fault
-use Rattle.mapdb_script.specs.declared.words.Keyword.{Keyword}
-use Rattle.mapdb_script.specs.declared.words.Keyword.TheVariants as keyword
+use Rattle.mapdb_script.specs.declared.grammar.Keyword.{Keyword}
+use Rattle.mapdb_script.specs.declared.grammar.Keyword.TheVariants as keyword
 use Rattle.mapdb_script.specs.declared.lines.Line.{Line}
 use Rattle.mapdb_script.specs.declared.lines.Line.TheVariants as line
 

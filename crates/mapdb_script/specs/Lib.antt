@@ -8,3 +8,7 @@ pub mod Grammar
 pub mod Reading
 pub mod Fronts
 pub mod Reply
+pub mod Cluster
+pub mod Script
+pub mod States
+pub mod Run

@@ -14,7 +14,6 @@ use Rattle.mapdb_script.specs.declared.fault.LineFault.{LineFault}
 use Rattle.mapdb_script.specs.declared.fault.LineFault.TheVariants as fault
 
 infixl 10 ◌>>=◌
-
 -- one step after the other, up to the first fault
 abbrev pub ◌>>=◌ : {A B : Type 0} → Result A LineFault → (A → Result B LineFault) → Result B LineFault
 (Ok x) >>= f = f x

@@ -93,7 +93,7 @@ pub struct Summary {
 }
 
 /// Why a run stops before its end.
-#[derive(Debug, Drop, Error)]
+#[derive(Clone, Copy, Debug, PartialEq, Eq, Error)]
 pub enum ScriptFault {
     /// A line is at fault, which the output tells.
     #[error("a line is at fault")]

@@ -8,8 +8,19 @@ ghost use Rattle.mapdb_script.specs.Grammar.{processors_at, map_at, rights_query
 use crate::fault::LineFault;
 use crate::lines::Line;
 use crate::spellings::{address, base, fpage, processor, send, space};
-use crate::words::{Keyword, next_word, one_word, six_words, three_words};
+use crate::words::{next_word, one_word, six_words, three_words};
 use mapdb_fpage::MapItem;
+
+/// The first word of a line, which says what it does.
+#[derive(Clone, Copy, Debug, PartialEq, Eq)]
+enum Keyword {
+    /// `processors`.
+    Processors,
+    /// `map`.
+    Map,
+    /// `rights`.
+    Rights,
+}
 
 /// A line without the byte 0D at its end.
 fn without_return(line: &[u8]) -> &[u8]
@@ -69,8 +80,8 @@ fn rights_line(words: &[u8]) -> Result<Line, LineFault>
     Ok(Line::Rights(at, asked, byte))
 }
 
-/// What the first word says.
-fn keyword(word: &[u8]) -> Option<Keyword>
+/// What the first word says the line does.
+fn keyword_of(word: &[u8]) -> Option<Keyword>
     ensures { result ≡ keyword_of word.now }
 {
     if word == b"processors".as_slice() {
@@ -122,6 +133,6 @@ pub fn parse_line(bytes: &[u8]) -> Result<Option<Line>, LineFault>
     if is_comment(word) {
         return Ok(None);
     }
-    let line = line_of(keyword(word), rest)?;
+    let line = line_of(keyword_of(word), rest)?;
     Ok(Some(line))
 }

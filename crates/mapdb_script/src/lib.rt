@@ -4,6 +4,8 @@
 //! reply. [`parse_line`] reads one line, [`run`] a whole script, from a [`Source`] to a [`Sink`].
 #![tactic(auto)]
 
+mod cluster;
+mod engine;
 mod fault;
 mod grammar;
 mod limits;
@@ -11,13 +13,19 @@ mod lines;
 mod number;
 mod reading;
 mod replies;
+mod script;
 mod spellings;
 mod streams;
+mod turn_fault;
 mod words;
 mod writing;
 
 pub use fault::{LineFault, ScriptFault, Summary};
 pub use grammar::parse_line;
 pub use lines::Line;
+pub use script::run;
 pub use streams::{Failed, FromRead, Sink, Source, ToWrite};
 pub use writing::write_all;
+
+#[cfg(test)]
+mod tests;

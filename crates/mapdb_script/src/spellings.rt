@@ -14,7 +14,7 @@ use mapdb_fpage::{ADDRESS_LIMIT, Fpage, Rights};
 pub fn processor(word: &[u8]) -> Result<u8, LineFault>
     ensures { result ≡ processor_at word.now }
 {
-    match number(10, DECIMAL_DIGITS, 255, word) {
+    match number(10, DECIMAL_DIGITS, u8::MAX as u64, word) {
         Some(n) => Ok(n as u8),
         None => Err(LineFault::Number),
     }
@@ -24,7 +24,7 @@ pub fn processor(word: &[u8]) -> Result<u8, LineFault>
 pub fn space(word: &[u8]) -> Result<Space, LineFault>
     ensures { result ≡ space_at word.now }
 {
-    match number(10, DECIMAL_DIGITS, 65535, word) {
+    match number(10, DECIMAL_DIGITS, u16::MAX as u64, word) {
         Some(n) => Ok(Space { number: n as u16 }),
         None => Err(LineFault::Number),
     }
@@ -94,7 +94,7 @@ fn place(word: &[u8]) -> Result<Option<Fpage>, LineFault>
     let Some(address) = number(16, PLACE_DIGITS, u64::MAX, address) else {
         return Err(LineFault::PageSyntax);
     };
-    let Some(order) = number(10, DECIMAL_DIGITS, 255, order) else {
+    let Some(order) = number(10, DECIMAL_DIGITS, u8::MAX as u64, order) else {
         return Err(LineFault::PageSyntax);
     };
     let place = Fpage::new(address, order as u8)?;

@@ -50,8 +50,8 @@ pub trait Sink {
 #[derive(Drop)]
 pub struct FromRead<R> {
     reader: R,
-    has_ended: bool,
-    has_failed: bool,
+    ended: bool,
+    failed: bool,
 }
 
 impl<R: Read> FromRead<R> {
@@ -63,8 +63,8 @@ impl<R: Read> FromRead<R> {
     {
         FromRead {
             reader,
-            has_ended: false,
-            has_failed: false,
+            ended: false,
+            failed: false,
         }
     }
 }
@@ -72,20 +72,20 @@ impl<R: Read> FromRead<R> {
 impl<R: Read> Source for FromRead<R> {
     ghost left = { λ s. R.remaining s.reader };
 
-    ghost has_ended = { λ s. s.has_ended };
+    ghost has_ended = { λ s. s.ended };
 
-    ghost has_failed = { λ s. s.has_failed };
+    ghost has_failed = { λ s. s.failed };
 
     fn read(&mut self, piece: &mut [u8]) -> Result<usize, Failed> {
         match self.reader.read(piece) {
             Ok(count) => {
                 if count == 0 && !piece.is_empty() {
-                    self.has_ended = true;
+                    self.ended = true;
                 }
                 Ok(count)
             }
             Err(_) => {
-                self.has_failed = true;
+                self.failed = true;
                 Err(Failed)
             }
         }

@@ -5,17 +5,6 @@ ghost use Rattle.std.specs.Option.{option_map};
 ghost use Rattle.mapdb_script.specs.Words.{words_of, behind_spaces, cut_at, one_of, three_of, six_of};
 ghost use Rattle.mapdb_script.specs.Lines.{before, beyond};
 
-/// The first word of a line, which says what it does.
-#[derive(Clone, Copy, Debug, PartialEq, Eq)]
-pub enum Keyword {
-    /// `processors`.
-    Processors,
-    /// `map`.
-    Map,
-    /// `rights`.
-    Rights,
-}
-
 /// How many bytes stand before the first byte `end`.
 #[tactic(auto, unfolding(crate::specs::Lines::before, crate::specs::Lines::beyond))]
 pub fn len_before(end: u8, bytes: &[u8]) -> usize

@@ -1,5 +1,5 @@
 -- Two lawful values side by side are lawful.
-use Rattle.std.specs.Prelude.{◌≡◌, Bool, true, ◌||◌, List, ◌++◌, map}
+use Rattle.std.specs.Prelude.{◌≡◌, Bool, true, ◌||◌, List}
 use Rattle.std.proofs.Common.{ap}
 use Rattle.std.specs.List.{Contains}
 use Rattle.std.proofs.lemmas.List.Elements.{Contains-append_left, Contains-append_right}
@@ -12,6 +12,7 @@ use Rattle.mapdb_join.specs.declared.both.OneOf.TheVariants.{First, Second}
 
 module _ {S T A B : Type 0} {has_first : S → A → Bool} {one : A → A → Type 0}
     {has_second : T → B → Bool} {two : B → B → Type 0} where
+  -- the exclusion of both parts is lawful
   pub exclusion_either : IsExclusion has_first one → IsExclusion has_second two →
       IsExclusion (has_either has_first has_second) (excludes_either one two)
   exclusion_either f s = record { symmetric = back; different = other; sound = apart }
@@ -34,6 +35,7 @@ module _ {S T A B : Type 0} {has_first : S → A → Bool} {one : A → A → Ty
       apart a (Second x) (First y) p q h = h
 
 module _ {S T A B : Type 0} (has_first : S → A → Bool) (has_second : T → B → Bool) where
+  -- each atom of a part stands in the list
   pub finite_either : (one : S → List A) (two : T → List B) →
       ((a : S) (x : A) → has_first a x ≡ true → Contains (one a) x) →
       ((a : T) (x : B) → has_second a x ≡ true → Contains (two a) x) →
@@ -46,6 +48,7 @@ module _ {S T A B : Type 0} (has_first : S → A → Bool) (has_second : T → B
 
   module _ (one : A → A → Type 0) (two : B → B → Type 0) (is_first : S → Type 0)
       (is_second : T → Type 0) where
+    -- two pairs that do not clash have a union
     pub joined_either :
         ((a b : S) → is_first a → is_first b → (Clashes has_first one a b → ⊥) → (c : S) × is_first c × IsUnion has_first a b c) →
         ((a b : T) → is_second a → is_second b → (Clashes has_second two a b → ⊥) → (c : T) × is_second c × IsUnion has_second a b c) →
@@ -60,10 +63,11 @@ module _ {S T A B : Type 0} (has_first : S → A → Bool) (has_second : T → B
         by_part : (c : S) (d : T) → IsUnion has_first a.first b.first c →
             IsUnion has_second a.second b.second d → (x : OneOf A B) →
             has_either has_first has_second (record { first = c; second = d }) x
-              ≡ (has_either has_first has_second a x || has_either has_first has_second b x)
+            ≡ (has_either has_first has_second a x || has_either has_first has_second b x)
         by_part c d u w (First x) = u x
         by_part c d u w (Second y) = w y
 
+    -- two pairs clash first at one spot
     pub one_either_spot : {P Q : Type 0} (spot : S → S → P → Type 0) (place : T → T → Q → Type 0) →
         ((a b : S) (s t : P) → spot a b s → spot a b t → s ≡ t) →
         ((a b : T) (s t : Q) → place a b s → place a b t → s ≡ t) →

@@ -1,6 +1,6 @@
 -- A set that grows is lawful.
 use Rattle.std.specs.Prelude.{◌≡◌, Bool, true, false, ◌||◌, List, [], ◌∷◌, refl}
-use Rattle.std.proofs.Common.{sym, ◌∙◌, ap}
+use Rattle.std.proofs.Common.{◌∙◌, ap}
 use Rattle.std.specs.List.{Contains, AllByRecursion}
 use Rattle.std.specs.declared.cmp.Ordering.{Ordering}
 use Rattle.std.specs.Cmp.{IsTotalOrder}
@@ -11,6 +11,7 @@ use Rattle.mapdb_join.specs.Atoms.{IsUnion, Clashes}
 use Rattle.mapdb_join.specs.Grow.{has_key, IsKeySet}
 use Rattle.mapdb_join.specs.Lawful.Inserted.{all_insert_key, sorted_insert_key, has-insert_key}
 
+-- each key of a set stands in its list
 pub finite_keys : {K : Type 0} (cmp : K → K → Ordering) →
     ((a b : K) → is_at (cmp a) b ≡ true → a ≡ b) → (ks : List K) (k : K) → has_key cmp ks k ≡ true →
     Contains ks k
@@ -26,6 +27,7 @@ module _ {K : Type 0} {cmp : K → K → Ordering} (o : IsTotalOrder cmp)
   regroup true t u = refl
   regroup false t u = refl
 
+  -- two sets have a union
   united : (a b : List K) → IsKeySet cmp is_key a → AllByRecursion is_key b →
       (c : List K) × IsKeySet cmp is_key c × IsUnion (has_key cmp) a b c
   united a [] p all = (a, p, λ x. with_last (has_key cmp a x))
@@ -33,6 +35,7 @@ module _ {K : Type 0} {cmp : K → K → Ordering} (o : IsTotalOrder cmp)
       let r = united (insert_key cmp a k) ks (record { sorted = sorted_insert_key o k a p.sorted; all = all_insert_key cmp is_key k all.0 a p.all }) all.1 in
       (r.0, r.1, λ x. r.2 x ∙ ap (λ t. t || has_key cmp ks x) (has-insert_key o exact k x a) ∙ regroup (has_key cmp a x) (is_at (cmp x) k) (has_key cmp ks x))
 
+  -- two sets that a program can have have a union that it can have
   pub joined_keys : (a b : List K) → IsKeySet cmp is_key a → IsKeySet cmp is_key b →
       (Clashes (has_key cmp) (λ _ _. ⊥) a b → ⊥) →
       (c : List K) × IsKeySet cmp is_key c × IsUnion (has_key cmp) a b c

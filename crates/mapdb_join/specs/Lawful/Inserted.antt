@@ -1,6 +1,6 @@
 -- A key or an entry that is put at its place in the order.
-use Rattle.std.specs.Prelude.{◌≡◌, ℕ, Bool, true, false, cond, ◌||◌, List, [], ◌∷◌, Option, Some, None, refl}
-use Rattle.std.proofs.Common.{sym, ◌∙◌, ap, subst}
+use Rattle.std.specs.Prelude.{◌≡◌, Bool, true, false, cond, ◌||◌, List, [], ◌∷◌, Option, Some, None, refl}
+use Rattle.std.proofs.Common.{sym, ◌∙◌, ap}
 use Rattle.std.specs.declared.cmp.Ordering.{Ordering}
 use Rattle.std.specs.declared.cmp.Ordering.TheVariants.{Less, Equal, Greater}
 use Rattle.std.specs.Ordering.{is_eq, match_ordering, ordering_reverse}
@@ -26,11 +26,13 @@ module _ {K : Type 0} (cmp : K → K → Ordering) where
       by rest Equal = h
       by rest Greater = (h.0, rest)
 
+  -- a key below all others stands first
   pub sorted_cons : (k : K) (ks : List K) → AllByRecursion (λ y. cmp k y ≡ Less) ks →
       IsStrictlySortedBy cmp ks → IsStrictlySortedBy cmp (k ∷ ks)
   unfolding IsStrictlySortedBy
   sorted_cons k ks above sorted = (above, sorted)
 
+  -- no keys are in order
   pub sorted_nil : IsStrictlySortedBy cmp []
   unfolding IsStrictlySortedBy
   sorted_nil = tt
@@ -42,6 +44,7 @@ module _ {K : Type 0} {cmp : K → K → Ordering} (o : IsTotalOrder cmp) where
   all_above j k below [] h = tt
   all_above j k below (x ∷ xs) h = (o.trans j k x below h.0, all_above j k below xs h.1)
 
+  -- keys stay in order when one is put
   pub sorted_insert_key : (k : K) (ks : List K) → IsStrictlySortedBy cmp ks →
       IsStrictlySortedBy cmp (insert_key cmp ks k)
   sorted_insert_key k [] s = sorted_cons cmp k [] tt (sorted_nil cmp)
@@ -58,6 +61,7 @@ module _ {K : Type 0} {cmp : K → K → Ordering} (o : IsTotalOrder cmp) where
           rest
 
 module _ {K V : Type 0} (cmp : K → K → Ordering) where
+  -- what holds of the entry and of each other entry holds of all
   pub all_insert_entry : (P : K → V → Type 0) (k : K) (v : V) → P k v →
       ((x : K) (w : V) → P x w → P x v) → (es : List (K × V)) → AllByRecursion (λ e. P e.0 e.1) es →
       AllByRecursion (λ e. P e.0 e.1) (insert_entry cmp es k v)
@@ -71,16 +75,17 @@ module _ {K V : Type 0} (cmp : K → K → Ordering) where
       by rest Equal = (takes e.0 e.1 h.0, h.1)
       by rest Greater = (h.0, rest)
 
+  -- the keys after an entry is put
   pub keys-insert_entry : (k : K) (v : V) (es : List (K × V)) →
       keys_of (insert_entry cmp es k v) ≡ insert_key cmp (keys_of es) k
   keys-insert_entry k v [] = refl
   keys-insert_entry k v (e ∷ es) =
       by (cmp k e.0)
-        ∙ ap (λ l. match_ordering (cmp k e.0) (k ∷ e.0 ∷ keys_of es) (e.0 ∷ keys_of es) (e.0 ∷ l)) (keys-insert_entry k v es)
+      ∙ ap (λ l. match_ordering (cmp k e.0) (k ∷ e.0 ∷ keys_of es) (e.0 ∷ keys_of es) (e.0 ∷ l)) (keys-insert_entry k v es)
     where
       by : (r : Ordering) →
           keys_of (match_ordering r ((k, v) ∷ e ∷ es) ((e.0, v) ∷ es) (e ∷ insert_entry cmp es k v))
-            ≡ match_ordering r (k ∷ e.0 ∷ keys_of es) (e.0 ∷ keys_of es) (e.0 ∷ keys_of (insert_entry cmp es k v))
+          ≡ match_ordering r (k ∷ e.0 ∷ keys_of es) (e.0 ∷ keys_of es) (e.0 ∷ keys_of (insert_entry cmp es k v))
       by Less = refl
       by Equal = refl
       by Greater = refl
@@ -92,14 +97,14 @@ module _ {K V : Type 0} (cmp : K → K → Ordering) where
   absent_above exact k [] h = refl
   absent_above exact k (e ∷ es) h =
       ap (λ r. cond (is_eq r) (Some e.1) (lookup (is_at (cmp k)) es)) h.0
-        ∙ absent_above exact k es h.1
+      ∙ absent_above exact k es h.1
 
 module _ {K : Type 0} {cmp : K → K → Ordering} (o : IsTotalOrder cmp)
     (exact : (a b : K) → is_at (cmp a) b ≡ true → a ≡ b) where
   -- what has the key, and what compares to it as the first key does
   pub has-insert_key : (k q : K) (ks : List K) →
       list_any (is_at (cmp q)) (insert_key cmp ks k)
-        ≡ (list_any (is_at (cmp q)) ks || is_at (cmp q) k)
+      ≡ (list_any (is_at (cmp q)) ks || is_at (cmp q) k)
   has-insert_key k q [] = last (is_at (cmp q) k)
     where
       last : (t : Bool) → (t || false) ≡ t
@@ -126,9 +131,9 @@ module _ {K : Type 0} {cmp : K → K → Ordering} (o : IsTotalOrder cmp)
 
       by :
           list_any (is_at (cmp q)) (insert_key cmp xs k)
-            ≡ (list_any (is_at (cmp q)) xs || is_at (cmp q) k) → (r : Ordering) → cmp k x ≡ r →
+          ≡ (list_any (is_at (cmp q)) xs || is_at (cmp q) k) → (r : Ordering) → cmp k x ≡ r →
           list_any (is_at (cmp q)) (match_ordering r (k ∷ x ∷ xs) (x ∷ xs) (x ∷ insert_key cmp xs k))
-            ≡ ((is_at (cmp q) x || list_any (is_at (cmp q)) xs) || is_at (cmp q) k)
+          ≡ ((is_at (cmp q) x || list_any (is_at (cmp q)) xs) || is_at (cmp q) k)
       by rest Less e = front (is_at (cmp q) k) (is_at (cmp q) x) (list_any (is_at (cmp q)) xs)
       by rest Equal e =
           twice (is_at (cmp q) x) (list_any (is_at (cmp q)) xs)
@@ -137,9 +142,10 @@ module _ {K : Type 0} {cmp : K → K → Ordering} (o : IsTotalOrder cmp)
           ap (λ t. is_at (cmp q) x || t) rest
           ∙ regroup (is_at (cmp q) x) (list_any (is_at (cmp q)) xs) (is_at (cmp q) k)
 
+  -- what a look-up finds after an entry is put
   pub lookup-insert_entry : {V : Type 0} (k : K) (v : V) (q : K) (es : List (K × V)) →
       lookup (is_at (cmp q)) (insert_entry cmp es k v)
-        ≡ cond (is_at (cmp q) k) (Some v) (lookup (is_at (cmp q)) es)
+      ≡ cond (is_at (cmp q) k) (Some v) (lookup (is_at (cmp q)) es)
   lookup-insert_entry k v q [] = refl
   lookup-insert_entry {V} k v q (e ∷ es) = by (lookup-insert_entry k v q es) (cmp k e.0) refl
     where
@@ -156,10 +162,10 @@ module _ {K : Type 0} {cmp : K → K → Ordering} (o : IsTotalOrder cmp)
 
       by :
           lookup (is_at (cmp q)) (insert_entry cmp es k v)
-            ≡ cond (is_at (cmp q) k) (Some v) (lookup (is_at (cmp q)) es) → (r : Ordering) →
+          ≡ cond (is_at (cmp q) k) (Some v) (lookup (is_at (cmp q)) es) → (r : Ordering) →
           cmp k e.0 ≡ r →
           lookup (is_at (cmp q)) (match_ordering r ((k, v) ∷ e ∷ es) ((e.0, v) ∷ es) (e ∷ insert_entry cmp es k v))
-            ≡ cond (is_at (cmp q) k) (Some v) (cond (is_at (cmp q) e.0) (Some e.1) (lookup (is_at (cmp q)) es))
+          ≡ cond (is_at (cmp q) k) (Some v) (cond (is_at (cmp q) e.0) (Some e.1) (lookup (is_at (cmp q)) es))
       by rest Less h = refl
       by rest Equal h =
           covers (is_at (cmp q) e.0) (Some v) (Some e.1) (lookup (is_at (cmp q)) es)

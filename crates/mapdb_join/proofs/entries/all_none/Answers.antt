@@ -1,8 +1,7 @@
-use Rattle.std.proofs.Common.{◌∙◌, sym, [], refl}
+use Rattle.std.proofs.Common.{◌∙◌, sym}
 use Rattle.std.proofs.lemmas.List.Elements.{recursion_from_All}
 use Rattle.std.proofs.lemmas.Bool.{true≢false}
 use Rattle.mapdb_join.proofs.Walking.{covered_first, none_of_entry}
-use Rattle.mapdb_join.specs.Lawful.Exact.{exact_cmp}
 use Rattle.mapdb_join.proofs.entries.all_none.Goals as goal
 
 pub loop-value-init : goal.loop-value-init

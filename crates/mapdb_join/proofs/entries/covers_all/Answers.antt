@@ -1,4 +1,4 @@
-use Rattle.std.proofs.Common.{◌∙◌, sym, IsTrue}
+use Rattle.std.proofs.Common.{◌∙◌, sym}
 use Rattle.std.proofs.lemmas.List.Elements.{recursion_from_All}
 use Rattle.std.proofs.lemmas.Bool.{true≢false}
 use Rattle.mapdb_join.proofs.Walking.{covered_first, entry_in}

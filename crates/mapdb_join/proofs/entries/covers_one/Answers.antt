@@ -1,4 +1,3 @@
-use Rattle.std.proofs.Common.{◌∙◌, sym}
 use Rattle.mapdb_join.proofs.Walking.{covers_held, covers_absent, held_from, absent_from}
 use Rattle.mapdb_join.specs.Lawful.Exact.{exact_cmp}
 use Rattle.mapdb_join.proofs.entries.covers_one.Goals as goal

@@ -1,4 +1,3 @@
-use Rattle.std.proofs.Common.{◌∙◌, sym, refl}
 use Rattle.std.proofs.lemmas.List.Elements.{recursion_from_All}
 use Rattle.mapdb_join.proofs.Walking.{parted_first, parted_last, parted_next, parted_found}
 use Rattle.mapdb_join.specs.Lawful.Exact.{exact_cmp}

@@ -1,16 +1,18 @@
-use Rattle.std.proofs.Common.{◌∙◌, sym, refl}
 use Rattle.std.proofs.lemmas.List.Elements.{recursion_from_All}
 use Rattle.std.proofs.lemmas.Result.{err_from_is_err_and}
 use Rattle.mapdb_join.specs.Lawful.Exact.{exact_cmp}
-use Rattle.mapdb_join.proofs.Walking.{merged_first, merged_next, merged_last, merged_apart, between_next}
-use Rattle.mapdb_join.proofs.Keyed.{keyed_first, keyed_next, keyed_last, part_next}
+use Rattle.mapdb_join.proofs.Walking.{merged_first, merged_next, merged_apart, between_next}
+use Rattle.mapdb_join.proofs.Keyed.{keyed_first, keyed_next, part_next}
 use Rattle.mapdb_join.proofs.entries.merge_all.Goals as goal
 
 pub loop-key-init : goal.loop-key-init
 loop-key-init g c =
     let f = c.into_iter-key-iterator.ensures.into_iter_gives in
-    rw f.0 (record { merged =
-        merged_first _ _ (recursion_from_All _ _ f.6); keyed = keyed_first _ _ })
+    rw f.0 (record {
+      merged =
+          merged_first _ _ (recursion_from_All _ _ f.6);
+      keyed = keyed_first _ _;
+    })
 
 pub merge_one-requires : goal.merge_one-requires
 merge_one-requires g c =

@@ -1,4 +1,3 @@
-use Rattle.std.specs.BTreeSet.{contains}
 use Rattle.mapdb_join.proofs.Adding.{Added}
 use Rattle.mapdb_join.proofs.grow.add_all.Given as goal
 

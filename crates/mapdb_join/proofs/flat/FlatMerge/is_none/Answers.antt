@@ -1,5 +1,5 @@
 -- a value has itself
-use Rattle.std.proofs.Common.{◌≡◌, true, false, sym, ◌∙◌}
+use Rattle.std.proofs.Common.{sym, ◌∙◌}
 use Rattle.std.proofs.lemmas.Bool.{true≢false}
 use Rattle.mapdb_join.proofs.flat.FlatMerge.is_none.Goals as goal
 

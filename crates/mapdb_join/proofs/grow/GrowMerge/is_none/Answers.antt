@@ -1,4 +1,3 @@
-use Rattle.std.proofs.Common.{◌∙◌, sym, ap, length}
 use Rattle.mapdb_join.proofs.Adding.{none_iff_empty}
 use Rattle.mapdb_join.proofs.grow.GrowMerge.is_none.Goals as goal
 

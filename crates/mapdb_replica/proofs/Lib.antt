@@ -1,0 +1,6 @@
+pub mod Gathering
+pub mod Keeping
+pub mod Issuing
+pub mod Limits
+pub mod PairLists
+pub mod PairLaws

@@ -1,0 +1,9 @@
+//! Laws of a copy's answers, each the contract of a function that does nothing.
+
+ghost use Rattle.mapdb_replica.specs.Pairs.{PageRightsAreListed};
+
+/// The listed rights of a page are those of the page: frames rise, each with some right, and a right is listed under a
+/// frame exactly where some record of the space has it there and reaches the frame.
+pub fn page_rights_are_listed()
+    ensures { PageRightsAreListed }
+{}

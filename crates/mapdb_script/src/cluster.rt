@@ -1,0 +1,193 @@
+//! What the lines of a script do to a cluster of copies.
+
+ghost use Rattle.std.specs.Prelude.{◌≡◌, ◌≤◌, IfOk, map};
+ghost use Rattle.std.specs.List.{range_with_len};
+ghost use Rattle.mapdb_replica.specs.Replica.{empty};
+
+use crate::fault::LineFault;
+use crate::limits::MOST_PROCESSORS;
+use crate::lines::Line;
+use crate::replies::{Refusal, records_text, rights_text};
+use crate::turn_fault::TurnFault;
+use mapdb_facts::Space;
+use mapdb_fpage::{Fpage, MapItem, PAGE_BYTES};
+use mapdb_replica::{IssueFault, Replica};
+use std::alloc::{AllocError, Global};
+
+/// What a line is answered.
+#[derive(Debug, Drop)]
+pub enum Reply {
+    /// Nothing is written.
+    Silent,
+    /// A text is written.
+    Answered(String),
+    /// The line did nothing, and the refusal is written.
+    Refused(Refusal),
+}
+
+impl Reply {
+    ghost use Rattle.std.specs.Prelude.{◌≡◌, IfOk, string_bytes};
+    ghost use Rattle.mapdb_script.specs.Cluster.{reply_text, is_refusal};
+    ghost use Rattle.mapdb_script.specs.States.{IsTold, reply_of};
+
+    /// What a copy that issued nothing is answered; want of memory is no reply.
+    fn refused(fault: IssueFault) -> Result<Reply, TurnFault>
+        ensures { IsTold fault result }
+    {
+        match fault {
+            IssueFault::SpaceEnded(space) => Ok(Reply::Refused(Refusal::SpaceEnded(space))),
+            IssueFault::RootSpace => Ok(Reply::Refused(Refusal::RootSpace)),
+            IssueFault::NumbersSpent => Ok(Reply::Refused(Refusal::NumbersSpent)),
+            IssueFault::Full => Ok(Reply::Refused(Refusal::Full)),
+            IssueFault::Memory { .. } => Err(TurnFault::Memory),
+        }
+    }
+
+    /// Whether the line did nothing.
+    pub fn is_refusal(&self) -> bool
+        ensures { result ≡ is_refusal (reply_of self.now) }
+    {
+        match self {
+            Reply::Refused(_) => true,
+            Reply::Silent | Reply::Answered(_) => false,
+        }
+    }
+
+    /// What is written, with the end of its line.
+    pub fn text(self, alloc: Global) -> Result<String, AllocError>
+        ensures { IfOk result (λ text. string_bytes text ≡ reply_text (reply_of self)) }
+    {
+        match self {
+            Reply::Silent => Ok(String::new(alloc)),
+            Reply::Answered(text) => format!(in alloc; "{text}\n"),
+            Reply::Refused(refusal) => {
+                let text = refusal.text(alloc)?;
+                format!(in alloc; "{text}\n")
+            }
+        }
+    }
+}
+
+/// Empty copies of the first processors.
+#[tactic(auto, using(crate::proofs::ClusterLemmas::one_copy_more))]
+fn new_copies(alloc: Global, count: u8) -> Result<Vec<Replica>, AllocError>
+    requires { count ≤ MOST_PROCESSORS }
+    ensures { IfOk result (λ copies. copies.items ≡ map empty (range_with_len 0 count)) }
+{
+    let mut copies = Vec::new(alloc);
+    for processor in 0..count {
+        copies.push(Replica::new(alloc, processor))?;
+    }
+    Ok(copies)
+}
+
+/// The copies of a script, one for each processor; none before there is a cluster.
+#[derive(Drop)]
+pub struct Cluster {
+    alloc: Global,
+    copies: Vec<Replica>,
+}
+
+impl Cluster {
+    ghost use Rattle.std.specs.Prelude.{◌≡◌, ◌≤◌, ◌<◌, ◌/◌, IfOk, IfSome, Ok, Err, Some, None, length, nat_lt, if◌then◌else◌};
+    ghost use Rattle.mapdb_script.specs.Cluster.{answered, at_processor, begin, done_by, issue_done, names_text, no_copies};
+    ghost use Rattle.mapdb_script.specs.Reply.{rights_text};
+    ghost use Rattle.mapdb_script.specs.States.{Does, cluster_of};
+    ghost use Rattle.mapdb_replica.specs.Pairs.{page_rights};
+    ghost use Rattle.mapdb_replica.specs.Replica.{map_outcome};
+
+    /// No cluster.
+    pub fn new(alloc: Global) -> Self
+        ensures { cluster_of result ≡ no_copies }
+    {
+        Cluster {
+            alloc,
+            copies: Vec::new(alloc),
+        }
+    }
+
+    /// Makes the cluster, which is made once.
+    fn begin(&mut self, count: u8) -> Result<Reply, TurnFault>
+        requires { count ≤ MOST_PROCESSORS }
+        ensures { Does result (cluster_of self.new) (begin (cluster_of self.old).copies count) }
+    {
+        if !self.copies.is_empty() {
+            return Err(TurnFault::Line(LineFault::ProcessorsAgain));
+        }
+        self.copies = new_copies(self.alloc, count)?;
+        Ok(Reply::Silent)
+    }
+
+    /// The place of a processor's copy, if the cluster has it.
+    fn place(&self, at: u8) -> Result<Option<usize>, LineFault>
+        ensures there { IfOk result (λ found. IfSome found (λ i. (i ≡ at) × (i < length (cluster_of self.now).copies))) }
+        ensures none { length (cluster_of self.now).copies ≡ 0 → result ≡ Err LineFault.NoProcessors }
+        ensures some { 0 < length (cluster_of self.now).copies
+            → result ≡ Ok (if nat_lt at (length (cluster_of self.now).copies) then Some at else None) }
+    {
+        if self.copies.is_empty() {
+            return Err(LineFault::NoProcessors);
+        }
+        let at = at as usize;
+        Ok(if at < self.copies.len() {
+            Some(at)
+        } else {
+            None
+        })
+    }
+
+    /// Maps at a processor.
+    fn map(
+        &mut self,
+        at: u8,
+        sender: Space,
+        item: MapItem,
+        receiver: Space,
+        window: Option<Fpage>,
+    ) -> Result<Reply, TurnFault>
+        ensures { Does result (cluster_of self.new) (at_processor (cluster_of self.old) at
+            (λ copy. issue_done (cluster_of self.old) at copy names_text
+            (map_outcome copy sender item receiver window))) }
+    {
+        let Some(at) = self.place(at)? else {
+            return Ok(Reply::Refused(Refusal::NoProcessor));
+        };
+        match self.copies[at].map(sender, &item, receiver, window) {
+            Ok(ids) => {
+                let text = records_text(self.alloc, ids.as_slice())?;
+                Ok(Reply::Answered(text))
+            }
+            Err(fault) => Reply::refused(fault),
+        }
+    }
+
+    /// Asks a processor for the rights of a page.
+    fn rights(&self, at: u8, space: Space, address: u32) -> Result<Reply, TurnFault>
+        ensures { Does result (cluster_of self.now) (at_processor (cluster_of self.now) at
+            (λ copy. answered (cluster_of self.now) (rights_text (page_rights copy.ops space (address / PAGE_BYTES))))) }
+    {
+        let Some(at) = self.place(at)? else {
+            return Ok(Reply::Refused(Refusal::NoProcessor));
+        };
+        let mappings = self.copies[at].rights(space, address / PAGE_BYTES)?;
+        let text = rights_text(self.alloc, mappings.as_slice())?;
+        Ok(Reply::Answered(text))
+    }
+
+    /// Does what a line says.
+    #[tactic(auto, unfolding(crate::specs::Cluster::done_by))]
+    pub fn answer(&mut self, line: Line) -> Result<Reply, TurnFault>
+        ensures { Does result (cluster_of self.new) (done_by (cluster_of self.old) line) }
+    {
+        match line {
+            Line::Processors(count) if count == 0 || count > MOST_PROCESSORS => {
+                Err(TurnFault::Line(LineFault::ProcessorCount))
+            }
+            Line::Processors(count) => self.begin(count),
+            Line::Map(at, sender, item, receiver, window) => {
+                self.map(at, sender, item, receiver, window)
+            }
+            Line::Rights(at, space, address) => self.rights(at, space, address),
+        }
+    }
+}

@@ -1,0 +1,5 @@
+//! What scripts write, and what a run makes of readers and writers that give little or fail.
+
+mod lines;
+mod rows;
+mod streams;
