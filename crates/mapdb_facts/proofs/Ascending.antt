@@ -11,7 +11,7 @@ use Rattle.mapdb_facts.specs.Looking.{Holds, IsFound, IsGreatest, IsNext}
 use Rattle.mapdb_facts.specs.Names.{is_after, is_before, is_root, root, same_id}
 use Rattle.mapdb_facts.specs.Records.{AllAfter, ComesNext, IsAmong, IsAscending, behind, greatest_number, placed, records_of}
 use Rattle.mapdb_facts.specs.State.{State, first_of, state_of}
-use Rattle.mapdb_facts.proofs.Tests.{none_some, same_id_at, same_id_true, some_same}
+use Rattle.mapdb_facts.proofs.SameNames.{none_some, same_id_at, same_id_true, some_same}
 
 -- the first record of this name
 abbrev pub find_record : List Record → RecordId → Option Record

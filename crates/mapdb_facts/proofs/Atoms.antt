@@ -10,8 +10,8 @@ use Rattle.mapdb_fpage.specs.declared.right_sets.Right.{Right}
 use Rattle.mapdb_facts.specs.declared.names.Space.{Space}
 use Rattle.mapdb_facts.specs.Names.{same_id, same_space}
 use Rattle.mapdb_facts.specs.State.{Atom, Rec, Rev, End, State, said, first_of, state_of, cuts, Has, Gives, HasAtom, SameAtoms, IsSound, Covers}
-use Rattle.mapdb_facts.proofs.Tests.{same_id_true, same_id_at, same_space_true, same_space_itself, some_same, none_some}
-use Rattle.mapdb_fpage.proofs.Tests.{or_left_true, or_right_true, same_test}
+use Rattle.mapdb_facts.proofs.SameNames.{same_id_true, same_id_at, same_space_true, same_space_itself, some_same, none_some}
+use Rattle.mapdb_fpage.proofs.Booleans.{or_left_true, or_right_true, same_test}
 
 -- two states with the same look-ups are one
 pub same_state : (S T : State) → ((id : RecordId) → S.record_at id ≡ T.record_at id) → ((id : RecordId) (page : ℕ) (right : Right) → S.is_cut id page right ≡ T.is_cut id page right) → ((space : Space) → S.is_ended space ≡ T.is_ended space) → S ≡ T

@@ -8,7 +8,7 @@ use Rattle.mapdb_fpage.specs.declared.right_sets.Rights.{Rights}
 use Rattle.mapdb_facts.specs.declared.operations.Record.{Record}
 use Rattle.mapdb_facts.specs.Adding.{same_place, same_record, same_rights}
 use Rattle.mapdb_facts.specs.Names.{same_id, same_space}
-use Rattle.mapdb_facts.proofs.Tests.{same_id_itself, same_id_true, same_space_itself, same_space_true}
+use Rattle.mapdb_facts.proofs.SameNames.{same_id_itself, same_id_true, same_space_itself, same_space_true}
 
 pub exact_place : (a b : Place) → same_place a b ≡ true → a ≡ b
 exact_place a b h =

@@ -1,5 +1,5 @@
 pub mod Formed
-pub mod Tests
+pub mod SameNames
 pub mod Exact
 pub mod Atoms
 pub mod Joins

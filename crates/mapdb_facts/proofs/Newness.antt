@@ -19,7 +19,7 @@ use Rattle.mapdb_facts.specs.Names.{same_id, same_space}
 use Rattle.mapdb_facts.specs.State.{Atom, End, Gives, Has, Rec, Rev, State, cuts, first_of, join, said}
 use Rattle.mapdb_facts.proofs.Atoms.{same_state}
 use Rattle.mapdb_facts.proofs.Exact.{exact_record, same_record_itself}
-use Rattle.mapdb_facts.proofs.Tests.{none_some, same_id_itself, same_id_true, same_space_true, some_same}
+use Rattle.mapdb_facts.proofs.SameNames.{none_some, same_id_itself, same_id_true, same_space_true, some_same}
 
 first_of_none : (o : Option Record) → first_of o None ≡ o
 first_of_none (Some r) = refl

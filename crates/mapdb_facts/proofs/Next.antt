@@ -12,7 +12,7 @@ use Rattle.mapdb_facts.specs.declared.operations.Record.{Record}
 use Rattle.mapdb_facts.specs.Looking.{Holds, IsFound, IsGreatest, IsNext}
 use Rattle.mapdb_facts.specs.Names.{is_after, is_before, same_id}
 use Rattle.mapdb_facts.specs.State.{State, first_of, join, said, state_of}
-use Rattle.mapdb_facts.proofs.Tests.{none_some, same_id_itself, same_id_true, some_same}
+use Rattle.mapdb_facts.proofs.SameNames.{none_some, same_id_itself, same_id_true, some_same}
 
 held_by : (b : Bool) (r s : Record) (o : Option Record) → first_of (if b then Some r else None) o ≡ Some s → (r ≡ s) ⊎ ((b ≡ false) × (o ≡ Some s))
 held_by true r s o h = inl (some_same r s h)

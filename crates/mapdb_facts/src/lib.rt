@@ -16,3 +16,6 @@ pub use checking::{OpFault, check};
 pub use holding::{AddFault, Facts};
 pub use names::{NUMBER_LIMIT, PROCESSOR_LIMIT, RecordId, Space};
 pub use operations::{Op, Record, Revocation};
+
+#[cfg(test)]
+mod tests;

@@ -1,4 +1,4 @@
-pub mod Tests
+pub mod Booleans
 pub mod Meets
 pub mod Parts
 pub mod Aligned

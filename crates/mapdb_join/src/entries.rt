@@ -21,7 +21,7 @@ fn covers_one<K: Ord + Exact, V: Merge>(map: &BTreeMap<K, V>, key: &K, theirs: &
     }
 }
 
-// Whether the map covers each entry of the other.
+/// Whether the map covers each entry of the other.
 pub(crate) fn covers_all<K: Ord + Exact, V: Merge>(
     map: &BTreeMap<K, V>,
     other: &BTreeMap<K, V>,
@@ -36,7 +36,7 @@ pub(crate) fn covers_all<K: Ord + Exact, V: Merge>(
     true
 }
 
-// Whether no value of the map has an atom.
+/// Whether no value of the map has an atom.
 pub(crate) fn all_none<K: Ord + Exact, V: Merge>(map: &BTreeMap<K, V>) -> bool
     ensures { IsTrue result ↔ HasNone (has_under K.cmp V.has) map.now.entries }
 {
@@ -66,7 +66,7 @@ fn clash_under<K: Ord + Exact, V: Merge>(
     }
 }
 
-// Where the two maps clash first, in the order of the keys.
+/// Where the two maps clash first, in the order of the keys.
 pub(crate) fn first_clash<K: Ord + Exact, V: Merge>(
     map: &BTreeMap<K, V>,
     other: &BTreeMap<K, V>,
@@ -115,7 +115,7 @@ fn merge_one<K: Ord + Exact, V: Merge>(
     Ok(())
 }
 
-// Merges each entry of the other into the map.
+/// Merges each entry of the other into the map.
 pub(crate) fn merge_all<K: Ord + Exact, V: Merge>(
     map: &mut BTreeMap<K, V>,
     other: &BTreeMap<K, V>,
@@ -136,7 +136,7 @@ pub(crate) fn merge_all<K: Ord + Exact, V: Merge>(
     Ok(())
 }
 
-// Shows that the entries are those of a map that a program can have.
+/// Shows that the entries are those of a map that a program can have.
 pub(crate) fn prove_entries<K: Ord + Exact, V: Representable>(map: &BTreeMap<K, V>)
     ensures { IsMap K.cmp K.is_value V.is_value map.now.entries }
 {

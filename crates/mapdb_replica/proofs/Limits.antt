@@ -5,7 +5,7 @@ use Rattle.std.specs.List.{list_any}
 use Rattle.std.proofs.lemmas.Bool.{cases_Bool, cond-true, le-leb, leb-true}
 use Rattle.std.proofs.lemmas.List.Sums.{sum_by-cons}
 use Rattle.std.proofs.lemmas.Bool.Decides.{nat_tests}
-use Rattle.mapdb_fpage.proofs.Tests.{same_test}
+use Rattle.mapdb_fpage.proofs.Booleans.{same_test}
 use Rattle.mapdb_fpage.specs.declared.items.Transfer.{Transfer}
 use Rattle.mapdb_facts.specs.Adding.{is_held, is_new}
 use Rattle.mapdb_facts.specs.Names.{number_limit}

@@ -3,7 +3,7 @@ use Rattle.std.proofs.Common.{◌≡◌, ℕ, ◌<◌, ◌≤◌, Bool, true, fa
 use Rattle.std.specs.Prelude.{◌⊎◌, ◌↔◌, ◌&&◌, ◌||◌, ◌==◌, None, Option, filter, map, nat_lt, not, if◌then◌else◌, ◌++◌}
 use Rattle.std.proofs.lemmas.Bool.{and_parts, cases_Bool, cond-false, cond-true, eqb-true, false≢true, ltb-true, or_cases}
 use Rattle.std.proofs.lemmas.Bool.Decides.{nat_tests}
-use Rattle.mapdb_fpage.proofs.Tests.{or_left_true, or_right_true}
+use Rattle.mapdb_fpage.proofs.Booleans.{or_left_true, or_right_true}
 use Rattle.mapdb_fpage.specs.Place.{whole}
 use Rattle.mapdb_fpage.specs.RightSets.{includes, is_empty, union}
 use Rattle.mapdb_fpage.specs.declared.right_sets.Right.{Right}
@@ -13,7 +13,7 @@ use Rattle.mapdb_facts.proofs.Ascending.{found_listed, listed_found}
 use Rattle.mapdb_facts.proofs.Atoms.{record_held}
 use Rattle.mapdb_facts.proofs.Formed.{formed_record}
 use Rattle.mapdb_facts.proofs.Newness.{some_here}
-use Rattle.mapdb_facts.proofs.Tests.{same_id_true}
+use Rattle.mapdb_facts.proofs.SameNames.{same_id_true}
 use Rattle.mapdb_facts.specs.Looking.{Holds}
 use Rattle.mapdb_facts.specs.Names.{is_first_space, is_root, number_limit, root, same_id, same_space}
 use Rattle.mapdb_facts.specs.Records.{IsAmong, records_of}

@@ -1,4 +1,4 @@
-pub mod Sources
+pub mod SourcePages
 pub mod Steps
 pub mod Walk
 pub mod Backed

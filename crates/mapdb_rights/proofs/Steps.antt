@@ -10,7 +10,7 @@ use Rattle.mapdb_fpage.specs.Place.{holds, is_page}
 use Rattle.mapdb_facts.specs.State.{State}
 use Rattle.mapdb_rights.specs.Right.{allows, has_right, reaches, record_right, right_by, right_within, source_page}
 use Rattle.mapdb_rights.specs.Frame.{frame_at, frame_by, frame_within, record_frame}
-use Rattle.mapdb_fpage.proofs.Tests.{and_same}
+use Rattle.mapdb_fpage.proofs.Booleans.{and_same}
 
 pub earlier : (id : RecordId) (r : Record) (page : ℕ) → reaches id r page ≡ true → r.parent.number < id.number
 earlier id r page h = ltb-true r.parent.number id.number (and_parts (holds r.place page) (nat_lt r.parent.number id.number) h).1

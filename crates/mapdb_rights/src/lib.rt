@@ -5,9 +5,12 @@
 #![tactic(auto)]
 
 pub mod laws;
-mod walking;
+mod record_frames;
+mod record_rights;
+mod sources;
 
-pub use walking::{frame_of, rights_of};
+pub use record_frames::frame_of;
+pub use record_rights::rights_of;
 
 #[cfg(test)]
 mod tests;

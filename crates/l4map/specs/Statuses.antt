@@ -1,0 +1,42 @@
+-- The statuses of the program, and what it tells on the errors.
+use Rattle.std.specs.Prelude.{◌≡◌, ℕ, ⊤, List, [], Bool, true, false, Option, Result, Ok, Err, codes}
+use Rattle.std.specs.Io.KnownBytes.{Appends}
+use Rattle.mapdb_script.specs.Fronts.{BeginsWith}
+use Rattle.mapdb_script.specs.declared.fault.Summary.{Summary}
+use Rattle.mapdb_script.specs.declared.fault.ScriptFault.{ScriptFault}
+use Rattle.mapdb_script.specs.declared.fault.ScriptFault.TheVariants as fault
+
+-- the status of a run
+abbrev pub status_of : Result Summary ScriptFault → ℕ
+status_of (Ok summary) = 0
+status_of (Err (fault.Line number f)) = 1
+status_of (Err fault.Read) = 3
+status_of (Err fault.Write) = 3
+status_of (Err fault.Memory) = 4
+
+-- what is told where memory was wanted
+abbrev pub memory_message : List ℕ
+memory_message = codes "l4map: out of memory\n"
+
+-- what is told where a word of the command line is no UTF-8
+abbrev pub words_message : List ℕ
+words_message = codes "l4map: the command line is not UTF-8\n"
+
+-- what is told of a run: nothing of a faulty line, which the output tells
+abbrev pub message_of : Result Summary ScriptFault → List ℕ
+message_of (Ok summary) = []
+message_of (Err (fault.Line number f)) = []
+message_of (Err fault.Read) = codes "l4map: read failed\n"
+message_of (Err fault.Write) = codes "l4map: write failed\n"
+message_of (Err fault.Memory) = memory_message
+
+-- A writer that had written `old` has now written `new`, and it was told a message: all of it, or a front where it failed.
+abbrev pub IsTold : Option (List ℕ) → Option (List ℕ) → Bool → List ℕ → Type 0
+IsTold old new has_failed message =
+    (text : List ℕ) × Appends old new text × BeginsWith message text × (has_failed ≡ false → text ≡ message)
+
+-- Where a run blames the reader or the writer, that one has failed.
+abbrev pub BlamesFailed : Result Summary ScriptFault → Bool → Bool → Type 0
+BlamesFailed (Err fault.Read) reader_failed writer_failed = reader_failed ≡ true
+BlamesFailed (Err fault.Write) reader_failed writer_failed = writer_failed ≡ true
+BlamesFailed outcome reader_failed writer_failed = ⊤

@@ -1,0 +1,37 @@
+//! The texts of help.
+
+/// What the program does, in a line.
+pub const ABOUT: &str = "Runs scripts on a replicated L4 X.2 mapping database.";
+
+/// What `run` does, in a line.
+pub const RUN_ABOUT: &str =
+    "Reads a script from standard input and writes the replies to standard output";
+
+/// How the program is called. A refused command line shows it too.
+pub const USAGE: &str = "l4map run < SCRIPT";
+
+/// The lines of a script, an example, and the statuses.
+pub const SCRIPT_HELP: &str = "\
+A script is a list of commands and queries for a cluster of processors, one a line. Each processor
+holds a copy of the mapping database. Every command and query but `processors` has a reply.
+
+Lines of a script:
+  processors N               makes a cluster of N processors (1 to 64); the first command, once
+  map P S SEND BASE R FPAGE  at processor P, space S maps the fpage SEND into the receive window
+                             FPAGE of space R; BASE is the send base
+  rights P S ADDR            asks for the frames and the rights of space S at address ADDR
+  # ...                      a comment
+
+Words of a line:
+  N, P, S, R  decimal; processors count from 0, and space 0 stands for physical memory
+  BASE, ADDR  an address, in hexadecimal without a prefix
+  FPAGE       ADDR/ORDER, the 2^ORDER bytes from ADDR on; `all`, the whole space; or `nil`
+  SEND        FPAGE:RIGHTS, the rights as rwx with - for each one that is missing
+
+Example, where the window is larger than the fpage and the send base says where in it:
+  $ printf 'processors 1\\nmap 0 0 10000/14:rw- 8000 1 40000/16\\nrights 0 1 48000\\n' | l4map run
+  records 1.0
+  rights 00010:rw-
+
+Status: 0 done, 1 a faulty line (the output says which), 2 command line refused or help asked for,
+3 read or write failed, 4 out of memory.";

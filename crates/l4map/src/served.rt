@@ -1,0 +1,123 @@
+//! The program's work, over any reader and writers.
+
+ghost use Rattle.std.specs.Prelude.{◌≡◌, ◌≢◌, ◌⊎◌, ℕ, List, Some, None, Result, false, map};
+ghost use Rattle.std.specs.Io.KnownBytes.{Appends, Consumes};
+ghost use Rattle.std.specs.declared.io.ErrorKind.TheVariants as io_kind;
+ghost use Rattle.clap.specs.Words.{kind_of};
+ghost use Rattle.mapdb_script.specs.Run.{IsOver, Tells};
+ghost use Rattle.mapdb_script.specs.declared.fault.Summary.{Summary as SummaryOf};
+ghost use Rattle.mapdb_script.specs.declared.fault.ScriptFault.{ScriptFault as FaultOf};
+ghost use Rattle.l4map.specs.Commands.{job_in};
+ghost use Rattle.l4map.specs.Statuses.{BlamesFailed, IsTold, memory_message, message_of, status_of, words_message};
+
+use crate::commands::{Job, job_of};
+use crate::messages::{OUT_OF_MEMORY, WORDS_ARE_NO_TEXT, message, tell};
+use clap::Error;
+use clap::error::ErrorKind;
+use mapdb_script::{ScriptFault, Sink, Source, Summary, run};
+use std::alloc::Global;
+use std::convert::AsStr;
+use std::io;
+
+/// The status of a run.
+fn status(outcome: &Result<Summary, ScriptFault>) -> u8
+    ensures { result ≡ status_of outcome.now }
+{
+    match outcome {
+        Ok(_) => 0,
+        Err(ScriptFault::Line { .. }) => 1,
+        Err(ScriptFault::Read | ScriptFault::Write) => 3,
+        Err(ScriptFault::Memory) => 4,
+    }
+}
+
+/// Tells that memory was wanted, and answers the status.
+fn want_memory<E: Sink>(errors: &mut E) -> u8
+    ensures status { result ≡ 4 }
+    ensures told { IsTold (E.written errors.old) (E.written errors.new) (E.has_failed errors.new) memory_message }
+{
+    tell(errors, OUT_OF_MEMORY);
+    4
+}
+
+/// Tells why clap refuses the words, or the help that they call for, and answers the status.
+fn refuse<E: Sink>(alloc: Global, error: &Error, errors: &mut E) -> u8
+    ensures memory { kind_of error.now ≡ ErrorKind.OutOfMemory → (result ≡ 4)
+        × IsTold (E.written errors.old) (E.written errors.new) (E.has_failed errors.new) memory_message }
+    ensures told { ((result ≡ 2) × ((text : List ℕ)
+        × IsTold (E.written errors.old) (E.written errors.new) (E.has_failed errors.new) text))
+        ⊎ ((result ≡ 4)
+        × IsTold (E.written errors.old) (E.written errors.new) (E.has_failed errors.new) memory_message) }
+{
+    if let ErrorKind::OutOfMemory = error.kind() {
+        return want_memory(errors);
+    }
+    match format!(in alloc; "{error}") {
+        Ok(text) => {
+            tell(errors, text.as_bytes());
+            2
+        }
+        Err(_) => want_memory(errors),
+    }
+}
+
+/// Tells why the words of the command line could not be had, and answers the status: 4 where memory was wanted, else 2, since
+/// a word is no UTF-8.
+pub fn refuse_unread<E: Sink>(kind: io::ErrorKind, errors: &mut E) -> u8
+    ensures memory { kind ≡ io_kind.OutOfMemory → (result ≡ 4)
+        × IsTold (E.written errors.old) (E.written errors.new) (E.has_failed errors.new) memory_message }
+    ensures words { kind ≢ io_kind.OutOfMemory → (result ≡ 2)
+        × IsTold (E.written errors.old) (E.written errors.new) (E.has_failed errors.new) words_message }
+{
+    if let io::ErrorKind::OutOfMemory = kind {
+        return want_memory(errors);
+    }
+    tell(errors, WORDS_ARE_NO_TEXT);
+    2
+}
+
+/// Does what the words ask for, and answers the status: 0 where all is done, 1 where a line of the script is at fault, which
+/// the writer is told, 2 where clap refuses the words or they call for help, 3 where the reader or the writer failed, and 4
+/// where memory was wanted. The errors are told why at 2, 3 and 4; that they fail changes nothing.
+pub fn serve<T: AllocGlobal, S: AsStr, R: Source, W: Sink, E: Sink>(
+    rt: &T,
+    words: &[S],
+    reader: &mut R,
+    writer: &mut W,
+    errors: &mut E,
+) -> u8
+    requires reader_works { R.has_failed reader.old ≡ false }
+    requires writer_works { W.has_failed writer.old ≡ false }
+    requires errors_work { E.has_failed errors.old ≡ false }
+
+    // Where clap reads the words as `run`.
+    ensures run { job_in (map S.text words.now) ≡ Some Job.Run →
+        ((result ≡ 4) × (reader.new ≡ reader.old) × (writer.new ≡ writer.old)
+        × IsTold (E.written errors.old) (E.written errors.new) (E.has_failed errors.new) memory_message)
+        ⊎ ((outcome : Result SummaryOf FaultOf) × (input text : List ℕ)
+        × Consumes (R.left reader.old) (R.left reader.new) input
+        × Appends (W.written writer.old) (W.written writer.new) text
+        × Tells outcome input text (IsOver (R.has_ended reader.new) (R.left reader.new))
+        × BlamesFailed outcome (R.has_failed reader.new) (W.has_failed writer.new)
+        × (result ≡ status_of outcome)
+        × IsTold (E.written errors.old) (E.written errors.new) (E.has_failed errors.new) (message_of outcome)) }
+
+    // Where clap refuses them.
+    ensures refused { job_in (map S.text words.now) ≡ None →
+        (reader.new ≡ reader.old) × (writer.new ≡ writer.old)
+        × (((result ≡ 2) × ((text : List ℕ)
+        × IsTold (E.written errors.old) (E.written errors.new) (E.has_failed errors.new) text))
+        ⊎ ((result ≡ 4)
+        × IsTold (E.written errors.old) (E.written errors.new) (E.has_failed errors.new) memory_message)) }
+{
+    let alloc = rt.alloc();
+    match job_of(alloc, words) {
+        Ok(Some(Job::Run)) => {
+            let outcome = run(alloc, reader, writer);
+            tell(errors, message(&outcome));
+            status(&outcome)
+        }
+        Ok(None) => 2,
+        Err(error) => refuse(alloc, &error, errors),
+    }
+}

@@ -1,0 +1,4 @@
+//! What the program answers, and what it leaves on its streams.
+
+mod statuses;
+mod streams;
