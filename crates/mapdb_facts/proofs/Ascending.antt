@@ -1,13 +1,13 @@
 -- The records of a list are listed once each in ascending order, and follow from its state.
 use Rattle.std.proofs.Common.{◌≡◌, ℕ, zero, suc, ◌<◌, ◌≤◌, Bool, true, false, Some, refl, sym, ap, subst, ◌∙◌, List, [], ◌∷◌, inl, inr, arith}
-use Rattle.std.specs.Prelude.{◌↔◌, ◌⊎◌, ◌&&◌, Option, None, max, filter, if◌then◌else◌}
+use Rattle.std.specs.Prelude.{◌↔◌, Option, None, max, if◌then◌else◌}
 use Rattle.std.proofs.lemmas.Bool.{cases_Bool, cond-true, cond-false, false≢true}
 use Rattle.std.proofs.lemmas.Bool.Decides.{nat_tests}
 use Rattle.mapdb_facts.specs.declared.names.RecordId.{RecordId}
 use Rattle.mapdb_facts.specs.declared.operations.Op.{Op}
 use Rattle.mapdb_facts.specs.declared.operations.Op.TheVariants.{Born, Closed, Cut}
 use Rattle.mapdb_facts.specs.declared.operations.Record.{Record}
-use Rattle.mapdb_facts.specs.Looking.{Holds, IsFound, IsGreatest, IsNext}
+use Rattle.mapdb_facts.specs.Looking.{IsFound, IsGreatest, IsNext}
 use Rattle.mapdb_facts.specs.Names.{is_after, is_before, is_root, root, same_id}
 use Rattle.mapdb_facts.specs.Records.{AllAfter, ComesNext, IsAmong, IsAscending, behind, greatest_number, placed, records_of}
 use Rattle.mapdb_facts.specs.State.{State, first_of, state_of}

@@ -1,7 +1,7 @@
 -- Records that compare equal are one record.
-use Rattle.std.proofs.Common.{◌≡◌, ℕ, Bool, true, false, refl, sym}
+use Rattle.std.proofs.Common.{◌≡◌, Bool, true, false, refl, sym}
 use Rattle.std.specs.Bool.{beq}
-use Rattle.std.specs.Prelude.{◌&&◌, nat_eq}
+use Rattle.std.specs.Prelude.{nat_eq}
 use Rattle.std.proofs.lemmas.Bool.{and_parts, and_from, eqb-true, eq-eqb}
 use Rattle.mapdb_fpage.specs.Place.{Place}
 use Rattle.mapdb_fpage.specs.declared.right_sets.Rights.{Rights}

@@ -1,13 +1,13 @@
 -- What a well-formed operation keeps.
 use Rattle.std.proofs.Common.{◌≡◌, ℕ, ◌%◌, ◌<◌, Bool, true, false, arith, refl, sym, subst, List, [], ◌∷◌, ◌++◌, length, get_or}
 use Rattle.std.proofs.lemmas.List.Recursion.{and_at}
-use Rattle.std.specs.Prelude.{◌&&◌, ◌||◌, ◌==◌, not, nat_le, nat_lt, Result, is_ok, Ok, Err, if◌then◌else◌}
+use Rattle.std.specs.Prelude.{◌||◌, not, nat_le, Result, is_ok, Err, if◌then◌else◌}
 use Rattle.std.proofs.lemmas.Bool.{and_from, and_parts, eqb-true, false≢true}
 use Rattle.std.proofs.lemmas.Bool.Decides.{nat_tests}
 use Rattle.mapdb_fpage.specs.Bounds.{page_limit}
 use Rattle.mapdb_fpage.specs.Place.{page_total}
-use Rattle.mapdb_facts.specs.Names.{is_first_space, processor_limit}
-use Rattle.mapdb_facts.specs.WellFormed.{IsFormedRecord, all_formed, checked, has_bad_number, has_bad_processor, has_early_parent, has_unaligned_source, has_wide_source, is_formed, is_number, is_reference, names_first_space}
+use Rattle.mapdb_facts.specs.Names.{processor_limit}
+use Rattle.mapdb_facts.specs.WellFormed.{IsFormedRecord, all_formed, has_bad_number, has_bad_processor, has_early_parent, has_unaligned_source, has_wide_source, is_formed, is_number, is_reference, names_first_space}
 use Rattle.mapdb_facts.specs.declared.checking.OpFault.{OpFault}
 use Rattle.mapdb_facts.specs.declared.operations.Op.{Op}
 use Rattle.mapdb_facts.specs.declared.operations.Op.TheVariants.{Born}

@@ -1,6 +1,6 @@
 -- What is new has an atom that the state lacks; what is not new adds nothing.
-use Rattle.std.proofs.Common.{◌≡◌, ℕ, Bool, true, false, Some, refl, sym, ap, subst, ◌∙◌, List, [], ◌∷◌, inl, inr}
-use Rattle.std.specs.Prelude.{◌&&◌, ◌||◌, ◌↔◌, not, Option, None, is_none, if◌then◌else◌}
+use Rattle.std.proofs.Common.{◌≡◌, ℕ, Bool, true, false, Some, refl, sym, ap, subst, ◌∙◌, inl, inr}
+use Rattle.std.specs.Prelude.{◌&&◌, ◌||◌, ◌↔◌, not, Option, None, if◌then◌else◌}
 use Rattle.std.proofs.lemmas.Bool.{and_parts, and_from, cases_Bool, cond-false, false≢true}
 use Rattle.mapdb_fpage.specs.declared.right_sets.Right.{Right}
 use Rattle.mapdb_fpage.specs.declared.right_sets.Right.TheVariants.{Execute, Read, Write}
@@ -14,12 +14,12 @@ use Rattle.mapdb_facts.specs.declared.operations.Op.{Op}
 use Rattle.mapdb_facts.specs.declared.operations.Op.TheVariants.{Born, Closed, Cut}
 use Rattle.mapdb_facts.specs.declared.operations.Record.{Record}
 use Rattle.mapdb_facts.specs.declared.operations.Revocation.{Revocation}
-use Rattle.mapdb_facts.specs.Adding.{cut_at, is_held, is_new, same_record, takes_more}
+use Rattle.mapdb_facts.specs.Adding.{cut_at, is_held, is_new, takes_more}
 use Rattle.mapdb_facts.specs.Names.{same_id, same_space}
 use Rattle.mapdb_facts.specs.State.{Atom, End, Gives, Has, Rec, Rev, State, cuts, first_of, join, said}
 use Rattle.mapdb_facts.proofs.Atoms.{same_state}
 use Rattle.mapdb_facts.proofs.Exact.{exact_record, same_record_itself}
-use Rattle.mapdb_facts.proofs.SameNames.{none_some, same_id_itself, same_id_true, same_space_true, some_same}
+use Rattle.mapdb_facts.proofs.SameNames.{same_id_itself, same_id_true, same_space_true}
 
 first_of_none : (o : Option Record) → first_of o None ≡ o
 first_of_none (Some r) = refl

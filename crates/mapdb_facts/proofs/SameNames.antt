@@ -1,6 +1,6 @@
 -- Small laws of names and look-ups.
-use Rattle.std.proofs.Common.{◌≡◌, Bool, true, Some, refl, subst}
-use Rattle.std.specs.Prelude.{◌&&◌, ◌==◌, None}
+use Rattle.std.proofs.Common.{◌≡◌, true, Some, refl, subst}
+use Rattle.std.specs.Prelude.{◌==◌, None}
 use Rattle.std.proofs.lemmas.Bool.{and_parts, and_from, eqb-true, eq-eqb}
 use Rattle.mapdb_facts.specs.declared.names.RecordId.{RecordId}
 use Rattle.mapdb_facts.specs.declared.names.Space.{Space}

@@ -13,7 +13,13 @@ fn id(number: u64) -> RecordId {
 }
 
 /// A record with all rights, of `2^s` bytes from 0x20000 on.
-fn mapping(id: RecordId, parent: RecordId, number: u16, s: u8, source: u32) -> Result<Record, Fail> {
+fn mapping(
+    id: RecordId,
+    parent: RecordId,
+    number: u16,
+    s: u8,
+    source: u32,
+) -> Result<Record, Fail> {
     Ok(Record {
         id,
         space: Space { number },
@@ -39,7 +45,14 @@ fn cut(addr: u64, s: u8, bits: u8) -> Result<Op, Fail> {
 }
 
 /// What is wrong with a record of processor `processor`.
-fn fault(number: u64, processor: u8, parent: u64, space: u16, s: u8, source: u32) -> Result<Option<OpFault>, Fail> {
+fn fault(
+    number: u64,
+    processor: u8,
+    parent: u64,
+    space: u16,
+    s: u8,
+    source: u32,
+) -> Result<Option<OpFault>, Fail> {
     let name = RecordId { number, processor };
     let op = Op::Born(mapping(name, id(parent), space, s, source)?);
     Ok(check(&op).err())
@@ -49,12 +62,27 @@ fn fault(number: u64, processor: u8, parent: u64, space: u16, s: u8, source: u32
 fn faults_come_in_order(rt: HostRuntime) -> Result<(), Fail> {
     let beyond = (1 << 20) + 1;
     assert_eq!(rt; fault(2, 63, 1, 1, 12, 0x10)?, None);
-    assert_eq!(rt; fault(2, 63, 1, 1, 12, 1 << 20)?, Some(OpFault::PageOutOfSpace));
+    assert_eq!(rt;
+        fault(2, 63, 1, 1, 12, 1 << 20)?,
+        Some(OpFault::PageOutOfSpace)
+    );
     assert_eq!(rt; fault(2, 63, 1, 0, 12, 1 << 20)?, Some(OpFault::RootSpace));
-    assert_eq!(rt; fault(2, 63, 1, 0, 13, beyond)?, Some(OpFault::SourceUnaligned));
-    assert_eq!(rt; fault(2, 63, 2, 0, 13, beyond)?, Some(OpFault::ParentNotBefore));
-    assert_eq!(rt; fault(2, 64, 2, 0, 13, beyond)?, Some(OpFault::BadProcessor));
-    assert_eq!(rt; fault(1 << 40, 64, 2, 0, 13, beyond)?, Some(OpFault::BadNumber));
+    assert_eq!(rt;
+        fault(2, 63, 1, 0, 13, beyond)?,
+        Some(OpFault::SourceUnaligned)
+    );
+    assert_eq!(rt;
+        fault(2, 63, 2, 0, 13, beyond)?,
+        Some(OpFault::ParentNotBefore)
+    );
+    assert_eq!(rt;
+        fault(2, 64, 2, 0, 13, beyond)?,
+        Some(OpFault::BadProcessor)
+    );
+    assert_eq!(rt;
+        fault(1 << 40, 64, 2, 0, 13, beyond)?,
+        Some(OpFault::BadNumber)
+    );
     assert_eq!(rt; fault(0, 0, 0, 1, 12, 0x10)?, Some(OpFault::BadNumber));
     Ok(())
 }
@@ -79,15 +107,24 @@ fn names_are_checked(rt: HostRuntime) -> Result<(), Fail> {
 #[test]
 fn records_are_held_by_name(rt: HostRuntime) -> Result<(), Fail> {
     let mut facts = Facts::new(rt.alloc());
-    assert_eq!(rt; (facts.greatest(), facts.next_record(None).is_some()), (0, false));
+    assert_eq!(rt;
+        (facts.greatest(), facts.next_record(None).is_some()),
+        (0, false)
+    );
     assert_eq!(rt; facts.add(one_page(3, id(1), 0x10)?), Ok(true));
     assert_eq!(rt; facts.add(one_page(1, RecordId::ROOT, 0x11)?), Ok(true));
     assert_eq!(rt; facts.add(one_page(1, RecordId::ROOT, 0x11)?), Ok(false));
     assert_eq!(rt; facts.record(id(1)).map(|held| held.source), Some(0x11));
     assert_eq!(rt; facts.record(id(2)).map(|held| held.source), None);
     assert_eq!(rt; facts.next_record(None).map(|held| held.source), Some(0x11));
-    assert_eq!(rt; facts.next_record(Some(id(1))).map(|held| held.source), Some(0x10));
-    assert_eq!(rt; facts.next_record(Some(id(3))).map(|held| held.source), None);
+    assert_eq!(rt;
+        facts.next_record(Some(id(1))).map(|held| held.source),
+        Some(0x10)
+    );
+    assert_eq!(rt;
+        facts.next_record(Some(id(3))).map(|held| held.source),
+        None
+    );
     assert_eq!(rt; facts.greatest(), 3);
     Ok(())
 }
@@ -96,8 +133,14 @@ fn records_are_held_by_name(rt: HostRuntime) -> Result<(), Fail> {
 fn faults_leave_the_facts(rt: HostRuntime) -> Result<(), Fail> {
     let mut facts = Facts::new(rt.alloc());
     assert_eq!(rt; facts.add(one_page(1, RecordId::ROOT, 0x10)?), Ok(true));
-    assert_eq!(rt; facts.add(one_page(1, RecordId::ROOT, 0x11)?), Err(AddFault::Clash(id(1))));
-    assert_eq!(rt; facts.add(Op::Closed(Space::FIRST)), Err(AddFault::Bad(OpFault::RootSpace)));
+    assert_eq!(rt;
+        facts.add(one_page(1, RecordId::ROOT, 0x11)?),
+        Err(AddFault::Clash(id(1)))
+    );
+    assert_eq!(rt;
+        facts.add(Op::Closed(Space::FIRST)),
+        Err(AddFault::Bad(OpFault::RootSpace))
+    );
     assert_eq!(rt; facts.record(id(1)).map(|held| held.source), Some(0x10));
     assert_eq!(rt; facts.ended(Space::FIRST), false);
     Ok(())
@@ -112,7 +155,13 @@ fn revocations_add_up(rt: HostRuntime) -> Result<(), Fail> {
     assert_eq!(rt; facts.add(cut(0x40000, 13, 2)?), Ok(false));
     assert_eq!(rt; facts.add(cut(0x40000, 13, 6)?), Ok(true));
     assert_eq!(rt; facts.add(cut(0x40000, 13, 6)?), Ok(false));
-    assert_eq!(rt; (facts.revoked(id(1), 0x40).bits(), facts.revoked(id(1), 0x42).bits()), (6, 0));
+    assert_eq!(rt;
+        (
+            facts.revoked(id(1), 0x40).bits(),
+            facts.revoked(id(1), 0x42).bits()
+        ),
+        (6, 0)
+    );
     Ok(())
 }
 
@@ -123,5 +172,8 @@ fn ends_are_permanent(rt: HostRuntime) {
     assert_eq!(rt; facts.ended(fifth), false);
     assert_eq!(rt; facts.add(Op::Closed(fifth)), Ok(true));
     assert_eq!(rt; facts.add(Op::Closed(fifth)), Ok(false));
-    assert_eq!(rt; (facts.ended(fifth), facts.ended(Space { number: 6 })), (true, false));
+    assert_eq!(rt;
+        (facts.ended(fifth), facts.ended(Space { number: 6 })),
+        (true, false)
+    );
 }

@@ -33,8 +33,24 @@ fn faults_come_in_order(rt: HostRuntime) {
 fn places_have_pages(rt: HostRuntime) -> Result<(), Fail> {
     let small = place(0x11000, 12)?;
     let large = place(0x10000, 14)?;
-    assert_eq!(rt; (large.first_page(), large.page_count(), large.end(), large.order()), (0x10, 4, 0x14, 14));
-    assert_eq!(rt; (large.holds(0x10), large.holds(0x13), large.holds(0x14), large.holds(0xf)), (true, true, false, false));
+    assert_eq!(rt;
+        (
+            large.first_page(),
+            large.page_count(),
+            large.end(),
+            large.order()
+        ),
+        (0x10, 4, 0x14, 14)
+    );
+    assert_eq!(rt;
+        (
+            large.holds(0x10),
+            large.holds(0x13),
+            large.holds(0x14),
+            large.holds(0xf)
+        ),
+        (true, true, false, false)
+    );
     assert_eq!(rt; large.meet(&small), Some(small));
     assert_eq!(rt; small.meet(&large), Some(small));
     assert_eq!(rt; small.meet(&place(0x12000, 12)?), None);
@@ -45,8 +61,14 @@ fn places_have_pages(rt: HostRuntime) -> Result<(), Fail> {
 fn larger_window_takes_the_part_at_the_send_base(rt: HostRuntime) -> Result<(), Fail> {
     let page = place(0x10000, 14)?;
     let window = Some(place(0x40000, 16)?);
-    assert_eq!(rt; sent(Some(page), 0x8000, window), Some((page, place(0x48000, 14)?)));
-    assert_eq!(rt; sent(Some(page), 0x1c000, window), Some((page, place(0x4c000, 14)?)));
+    assert_eq!(rt;
+        sent(Some(page), 0x8000, window),
+        Some((page, place(0x48000, 14)?))
+    );
+    assert_eq!(rt;
+        sent(Some(page), 0x1c000, window),
+        Some((page, place(0x4c000, 14)?))
+    );
     let everywhere = sent(Some(page), 0xabcd_ef00, Some(Fpage::complete()));
     assert_eq!(rt; everywhere, Some((page, place(0xabcd_c000, 14)?)));
     Ok(())
@@ -66,7 +88,10 @@ fn smaller_window_takes_a_part_of_the_page(rt: HostRuntime) -> Result<(), Fail> 
 fn equal_sizes_ignore_the_send_base(rt: HostRuntime) -> Result<(), Fail> {
     let page = place(0x20000, 16)?;
     let window = place(0x80000, 16)?;
-    assert_eq!(rt; sent(Some(page), 0xffff_f000, Some(window)), Some((page, window)));
+    assert_eq!(rt;
+        sent(Some(page), 0xffff_f000, Some(window)),
+        Some((page, window))
+    );
     let all = Fpage::complete();
     assert_eq!(rt; sent(Some(all), 0x1234_5678, Some(all)), Some((all, all)));
     Ok(())
@@ -84,13 +109,35 @@ fn rights_are_sets(rt: HostRuntime) -> Result<(), Fail> {
     let read = Rights::from_bits(4).ok_or("4 is a set")?;
     let write = Rights::from_bits(2).ok_or("2 is a set")?;
     assert_eq!(rt; Rights::from_bits(8), None);
-    assert_eq!(rt; (read.union(write).bits(), Rights::ALL.bits(), Rights::NONE.bits()), (6, 7, 0));
+    assert_eq!(rt;
+        (
+            read.union(write).bits(),
+            Rights::ALL.bits(),
+            Rights::NONE.bits()
+        ),
+        (6, 7, 0)
+    );
     assert_eq!(rt; Rights::from_bits(6), Some(read.union(write)));
-    assert_eq!(rt; (read.meet(write), Rights::ALL.without(read).bits()), (Rights::NONE, 3));
-    assert_eq!(rt; (Rights::ALL.contains(read), read.contains(Rights::ALL)), (true, false));
-    assert_eq!(rt; (read.has(Right::Read), read.has(Right::Execute)), (true, false));
+    assert_eq!(rt;
+        (read.meet(write), Rights::ALL.without(read).bits()),
+        (Rights::NONE, 3)
+    );
+    assert_eq!(rt;
+        (Rights::ALL.contains(read), read.contains(Rights::ALL)),
+        (true, false)
+    );
+    assert_eq!(rt;
+        (read.has(Right::Read), read.has(Right::Execute)),
+        (true, false)
+    );
     assert_eq!(rt; (Rights::NONE.is_none(), write.is_none()), (true, false));
-    assert_eq!(rt; (read.union(write).text(), Rights::from_bits(1).ok_or("1 is a set")?.text()), (*b"rw-", *b"--x"));
+    assert_eq!(rt;
+        (
+            read.union(write).text(),
+            Rights::from_bits(1).ok_or("1 is a set")?.text()
+        ),
+        (*b"rw-", *b"--x")
+    );
     Ok(())
 }
 

@@ -1,16 +1,16 @@
 -- Records of pieces may be added, one after the other.
 use Rattle.std.proofs.Common.{◌≡◌, ℕ, zero, suc, ◌+◌, ◌-◌, ◌%◌, ◌^◌, ◌<◌, ◌≤◌, Bool, true, false, Ok, Err, Some, Result, refl, sym, ap, subst, ◌∙◌, List, [], ◌∷◌, ◌++◌, append_assoc, append-nil, get_or, length, take, arith}
-use Rattle.std.specs.Prelude.{◌&&◌, ◌||◌, ◌==◌, IfOk, Option, None, nat_le, nat_lt, not, if◌then◌else◌}
-use Rattle.std.proofs.lemmas.Bool.{and_from, cases_Bool, cond-false, eq-eqb, false≢true, lt-ltb}
+use Rattle.std.specs.Prelude.{◌||◌, IfOk, Option, None, nat_le, nat_lt, not, if◌then◌else◌}
+use Rattle.std.proofs.lemmas.Bool.{and_from, cond-false, eq-eqb, lt-ltb}
 use Rattle.std.proofs.lemmas.Bool.Decides.{nat_tests}
 use Rattle.std.proofs.Math.Pow.{pow_pos}
 use Rattle.mapdb_fpage.specs.Bounds.{least_order, page_limit}
-use Rattle.mapdb_fpage.specs.Place.{IsPlace, Place, page_total}
+use Rattle.mapdb_fpage.specs.Place.{Place, page_total}
 use Rattle.mapdb_fpage.specs.Transfer.{transfer_of}
 use Rattle.mapdb_fpage.specs.declared.items.MapItem.{MapItem}
 use Rattle.mapdb_fpage.specs.declared.items.Transfer.{Transfer}
 use Rattle.mapdb_facts.specs.Adding.{added, added_if, clash_of, is_held, is_new, other_record}
-use Rattle.mapdb_facts.specs.Looking.{Holds, IsGreatest}
+use Rattle.mapdb_facts.specs.Looking.{IsGreatest}
 use Rattle.mapdb_facts.specs.Names.{is_first_space, number_limit, processor_limit, same_id}
 use Rattle.mapdb_facts.specs.Records.{greatest_number, records_of}
 use Rattle.mapdb_facts.specs.State.{State, first_of, join, said, state_of}
@@ -131,8 +131,8 @@ take-numbered number processor receiver transfer (piece ∷ rest) (suc i) d with
     let same : number + 1 + i ≡ number + suc i = omega arith in
     ap (λ n. take n (numbered number processor receiver transfer (piece ∷ rest))) next
     ∙ ap (λ (ops : List Op). Born (record_of (record { number = number; processor = processor }) receiver transfer piece) ∷ ops)
-        (take-numbered (number + 1) processor receiver transfer rest i d (omega arith)
-        ∙ ap (λ n. take i (numbered (number + 1) processor receiver transfer rest) ++ Born (record_of (record { number = n; processor = processor }) receiver transfer (get_or rest i d)) ∷ []) same)
+    (take-numbered (number + 1) processor receiver transfer rest i d (omega arith)
+    ∙ ap (λ n. take i (numbered (number + 1) processor receiver transfer rest) ++ Born (record_of (record { number = n; processor = processor }) receiver transfer (get_or rest i d)) ∷ []) same)
 
 -- what is issued in two parts
 with_issued-twice : (log : Log) (xs ys : List Op) → with_issued (with_issued log xs) ys ≡ with_issued log (xs ++ ys)

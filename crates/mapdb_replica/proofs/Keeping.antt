@@ -1,15 +1,14 @@
 -- What a copy keeps when an operation is added.
-use Rattle.std.proofs.Common.{◌≡◌, ℕ, suc, ◌+◌, ◌<◌, ◌≤◌, Bool, true, false, Ok, Err, Result, refl, sym, ap, subst, ◌∙◌, List, [], ◌∷◌, ◌++◌, length, length-append, arith}
+use Rattle.std.proofs.Common.{◌≡◌, ℕ, suc, ◌+◌, ◌<◌, ◌≤◌, Bool, true, false, Ok, Err, Result, refl, sym, ap, ◌∙◌, List, [], ◌∷◌, ◌++◌, length, length-append, arith}
 use Rattle.std.specs.Prelude.{Option, OnOk, is_err, is_ok, if◌then◌else◌}
-use Rattle.std.proofs.lemmas.Bool.{true≢false, false≢true}
+use Rattle.std.proofs.lemmas.Bool.{true≢false}
 use Rattle.mapdb_facts.specs.Adding.{added, added_if, clash_of, is_new}
 use Rattle.mapdb_facts.specs.Facts.{records_of_facts, state_of_facts}
 use Rattle.mapdb_facts.specs.Names.{is_before, same_id}
 use Rattle.mapdb_facts.specs.Records.{placed, records_of}
-use Rattle.mapdb_facts.specs.State.{State, join, said, state_of}
+use Rattle.mapdb_facts.specs.State.{State, join, said}
 use Rattle.mapdb_facts.specs.WellFormed.{checked, is_formed}
 use Rattle.mapdb_facts.specs.declared.checking.OpFault.{OpFault}
-use Rattle.mapdb_facts.specs.declared.holding.AddFault.{AddFault}
 use Rattle.mapdb_facts.specs.declared.holding.Facts.{Facts}
 use Rattle.mapdb_facts.specs.declared.names.RecordId.{RecordId}
 use Rattle.mapdb_facts.specs.declared.operations.Op.{Op}

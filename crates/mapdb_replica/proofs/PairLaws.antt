@@ -1,6 +1,6 @@
 -- The listed rights of a page are those that some record of the space has there.
-use Rattle.std.proofs.Common.{◌≡◌, ℕ, ◌<◌, ◌≤◌, Bool, true, false, Some, refl, sym, ap, subst, ◌∙◌, List, [], ◌∷◌, inl, inr, arith}
-use Rattle.std.specs.Prelude.{◌⊎◌, ◌↔◌, ◌&&◌, ◌||◌, ◌==◌, None, Option, filter, map, nat_lt, not, if◌then◌else◌, ◌++◌}
+use Rattle.std.proofs.Common.{◌≡◌, ℕ, ◌<◌, Bool, true, false, Some, refl, sym, ap, subst, ◌∙◌, List, [], ◌∷◌, inl, inr, arith}
+use Rattle.std.specs.Prelude.{◌⊎◌, ◌||◌, ◌==◌, None, Option, filter, map, nat_lt, not, if◌then◌else◌, ◌++◌}
 use Rattle.std.proofs.lemmas.Bool.{and_parts, cases_Bool, cond-false, cond-true, eqb-true, false≢true, ltb-true, or_cases}
 use Rattle.std.proofs.lemmas.Bool.Decides.{nat_tests}
 use Rattle.mapdb_fpage.proofs.Booleans.{or_left_true, or_right_true}
@@ -15,7 +15,7 @@ use Rattle.mapdb_facts.proofs.Formed.{formed_record}
 use Rattle.mapdb_facts.proofs.Newness.{some_here}
 use Rattle.mapdb_facts.proofs.SameNames.{same_id_true}
 use Rattle.mapdb_facts.specs.Looking.{Holds}
-use Rattle.mapdb_facts.specs.Names.{is_first_space, is_root, number_limit, root, same_id, same_space}
+use Rattle.mapdb_facts.specs.Names.{is_first_space, is_root, number_limit, root, same_space}
 use Rattle.mapdb_facts.specs.Records.{IsAmong, records_of}
 use Rattle.mapdb_facts.specs.State.{HasAtom, Rec, State, state_of}
 use Rattle.mapdb_facts.specs.WellFormed.{all_formed, is_formed}
@@ -25,7 +25,7 @@ use Rattle.mapdb_facts.specs.declared.operations.Op.{Op}
 use Rattle.mapdb_facts.specs.declared.operations.Op.TheVariants.{Born, Closed, Cut}
 use Rattle.mapdb_facts.specs.declared.operations.Record.{Record}
 use Rattle.mapdb_rights.specs.Frame.{frame_at}
-use Rattle.mapdb_rights.specs.PageRights.{HasPair, is_into, is_record_into}
+use Rattle.mapdb_rights.specs.PageRights.{is_into, is_record_into}
 use Rattle.mapdb_rights.specs.Right.{has_right, rights_at}
 use Rattle.mapdb_replica.specs.Issue.{first_holders, holder_of, holders, record_holders}
 use Rattle.mapdb_replica.specs.Pairs.{AllAbove, IsRising, ListsRight, PageRightsAreListed, Pair, page_rights, pair_at, pair_with, pairs_from, with_pair, with_some}
@@ -292,7 +292,7 @@ page_rights_are_listed ops space page all = (
       | inr none ↦ absurd none
     ]),
     (λ pair. let found = into_from ops space pair.0 pair.1 in
-    from_from (state_of ops) page (holders (records_of ops) space) [] frame right
-    (inl (found.0, found.1, subst (λ (id : RecordId). Gives (state_of ops) page id frame right) (sym found.2) (pair.3, pair.2)))),
+        from_from (state_of ops) page (holders (records_of ops) space) [] frame right
+        (inl (found.0, found.1, subst (λ (id : RecordId). Gives (state_of ops) page id frame right) (sym found.2) (pair.3, pair.2)))),
   ),
 )

@@ -5,11 +5,10 @@
 #![tactic(auto)]
 
 mod faults;
+pub mod laws;
 mod page_rights;
 mod pieces;
 mod replicas;
-
-pub mod laws;
 
 pub use faults::{IssueFault, MOST_OPERATIONS};
 pub use pieces::{Holder, Piece};

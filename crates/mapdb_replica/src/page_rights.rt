@@ -25,11 +25,7 @@ fn place_of(pairs: &[(u32, Rights)], frame: u32) -> usize
 }
 
 /// Adds rights of a frame to those of the page: they join those of the same frame.
-fn add_pair(
-    pairs: &mut Vec<(u32, Rights)>,
-    frame: u32,
-    rights: Rights,
-) -> Result<(), AllocError>
+fn add_pair(pairs: &mut Vec<(u32, Rights)>, frame: u32, rights: Rights) -> Result<(), AllocError>
     ensures { OnOk result (pairs.new.items ≡ with_pair (frame, rights) pairs.old.items) }
 {
     let place = place_of(pairs.as_slice(), frame);

@@ -161,7 +161,13 @@ impl Replica {
         ensures found { IfOk result (λ found. found.items ≡ held_pieces self.now sender carried.now) }
         ensures fitting { IfOk result (λ found. AllFitting carried.now.source (greatest_number (records_of self.now.ops)) found.items) }
     {
-        pieces(self.alloc, &self.facts, sender, &carried.source, carried.rights)
+        pieces(
+            self.alloc,
+            &self.facts,
+            sender,
+            &carried.source,
+            carried.rights,
+        )
     }
 
     /// The names of so many records, with numbers behind the greatest.

@@ -49,7 +49,12 @@ fn first_path(rt: HostRuntime) -> Result<(), Fail> {
     let mut copy = Replica::new(rt.alloc(), 0);
     let mut sent = item(0x10000, 14, 6)?;
     sent.send_base = 0x8000;
-    let names = copy.map(Space { number: 0 }, &sent, Space { number: 1 }, window(0x40000, 16)?)?;
+    let names = copy.map(
+        Space { number: 0 },
+        &sent,
+        Space { number: 1 },
+        window(0x40000, 16)?,
+    )?;
     assert_eq!(rt; names.as_slice(), [id(1)].as_slice());
     expect_rights(&rt, &copy, 1, 0x48, &[(0x10, 6)])?;
     expect_rights(&rt, &copy, 1, 0x4b, &[(0x13, 6)])?;
@@ -60,10 +65,25 @@ fn first_path(rt: HostRuntime) -> Result<(), Fail> {
 #[test]
 fn two_pieces(rt: HostRuntime) -> Result<(), Fail> {
     let mut copy = Replica::new(rt.alloc(), 0);
-    let first = copy.map(Space { number: 0 }, &item(0x10000, 13, 4)?, Space { number: 1 }, window(0x40000, 13)?)?;
-    let second = copy.map(Space { number: 0 }, &item(0x30000, 13, 6)?, Space { number: 1 }, window(0x42000, 13)?)?;
+    let first = copy.map(
+        Space { number: 0 },
+        &item(0x10000, 13, 4)?,
+        Space { number: 1 },
+        window(0x40000, 13)?,
+    )?;
+    let second = copy.map(
+        Space { number: 0 },
+        &item(0x30000, 13, 6)?,
+        Space { number: 1 },
+        window(0x42000, 13)?,
+    )?;
     assert_eq!(rt; (first.len(), second.as_slice()), (1, [id(2)].as_slice()));
-    let both = copy.map(Space { number: 1 }, &item(0x40000, 14, 6)?, Space { number: 2 }, window(0x80000, 14)?)?;
+    let both = copy.map(
+        Space { number: 1 },
+        &item(0x40000, 14, 6)?,
+        Space { number: 2 },
+        window(0x80000, 14)?,
+    )?;
     assert_eq!(rt; both.as_slice(), [id(3), id(4)].as_slice());
     expect_rights(&rt, &copy, 2, 0x81, &[(0x11, 4)])?;
     expect_rights(&rt, &copy, 2, 0x83, &[(0x31, 6)])
@@ -74,7 +94,12 @@ fn occupied_destination(rt: HostRuntime) -> Result<(), Fail> {
     let mut copy = Replica::new(rt.alloc(), 0);
     let here = window(0x20000, 12)?;
     for (addr, bits) in [(0x30000, 7), (0x10000, 4), (0x10000, 6)] {
-        let names = copy.map(Space { number: 0 }, &item(addr, 12, bits)?, Space { number: 1 }, here)?;
+        let names = copy.map(
+            Space { number: 0 },
+            &item(addr, 12, bits)?,
+            Space { number: 1 },
+            here,
+        )?;
         assert_eq!(rt; names.len(), 1);
     }
     expect_rights(&rt, &copy, 1, 0x20, &[(0x10, 6), (0x30, 7)])
@@ -83,11 +108,26 @@ fn occupied_destination(rt: HostRuntime) -> Result<(), Fail> {
 #[test]
 fn refused_maps_change_nothing(rt: HostRuntime) -> Result<(), Fail> {
     let mut copy = Replica::new(rt.alloc(), 0);
-    let refused = copy.map(Space { number: 0 }, &item(0x10000, 12, 7)?, Space::FIRST, None);
+    let refused = copy.map(
+        Space { number: 0 },
+        &item(0x10000, 12, 7)?,
+        Space::FIRST,
+        None,
+    );
     assert!(rt; matches!(refused, Err(IssueFault::RootSpace)));
-    let none = copy.map(Space { number: 0 }, &item(0x10000, 12, 7)?, Space { number: 1 }, None)?;
+    let none = copy.map(
+        Space { number: 0 },
+        &item(0x10000, 12, 7)?,
+        Space { number: 1 },
+        None,
+    )?;
     assert_eq!(rt; none.len(), 0);
-    let from_nowhere = copy.map(Space { number: 7 }, &item(0x10000, 12, 7)?, Space { number: 1 }, window(0, 32)?)?;
+    let from_nowhere = copy.map(
+        Space { number: 7 },
+        &item(0x10000, 12, 7)?,
+        Space { number: 1 },
+        window(0, 32)?,
+    )?;
     assert_eq!(rt; from_nowhere.len(), 0);
     expect_rights(&rt, &copy, 1, 0x10, &[])
 }

@@ -28,11 +28,32 @@ fn one_page(number: u16, addr: u64, parent: RecordId, source: u32, bits: u8) -> 
 #[test]
 fn right_that_the_mapper_lacks(rt: HostRuntime) -> Result<(), Fail> {
     let mut facts = Facts::new(rt.alloc());
-    assert_eq!(rt; facts.add(one_page(1, 0x20000, RecordId::ROOT, 0x10, 6)?), Ok(true));
+    assert_eq!(rt;
+        facts.add(one_page(1, 0x20000, RecordId::ROOT, 0x10, 6)?),
+        Ok(true)
+    );
     assert_eq!(rt; facts.add(one_page(2, 0x30000, id(1), 0x20, 7)?), Ok(true));
-    assert_eq!(rt; (rights_of(&facts, id(2), 0x30).bits(), frame_of(&facts, id(2), 0x30)), (6, Some(0x10)));
-    assert_eq!(rt; (rights_of(&facts, id(2), 0x31).bits(), frame_of(&facts, id(2), 0x31)), (0, None));
-    assert_eq!(rt; (rights_of(&facts, RecordId::ROOT, 7).bits(), frame_of(&facts, RecordId::ROOT, 7)), (7, Some(7)));
+    assert_eq!(rt;
+        (
+            rights_of(&facts, id(2), 0x30).bits(),
+            frame_of(&facts, id(2), 0x30)
+        ),
+        (6, Some(0x10))
+    );
+    assert_eq!(rt;
+        (
+            rights_of(&facts, id(2), 0x31).bits(),
+            frame_of(&facts, id(2), 0x31)
+        ),
+        (0, None)
+    );
+    assert_eq!(rt;
+        (
+            rights_of(&facts, RecordId::ROOT, 7).bits(),
+            frame_of(&facts, RecordId::ROOT, 7)
+        ),
+        (7, Some(7))
+    );
     assert_eq!(rt; rights_of(&facts, RecordId::ROOT, 1 << 20), Rights::NONE);
     Ok(())
 }
@@ -41,25 +62,52 @@ fn right_that_the_mapper_lacks(rt: HostRuntime) -> Result<(), Fail> {
 fn missing_parent_gives_nothing(rt: HostRuntime) -> Result<(), Fail> {
     let mut facts = Facts::new(rt.alloc());
     assert_eq!(rt; facts.add(one_page(2, 0x30000, id(1), 0x20, 7)?), Ok(true));
-    assert_eq!(rt; (rights_of(&facts, id(2), 0x30), frame_of(&facts, id(2), 0x30)), (Rights::NONE, None));
-    assert_eq!(rt; facts.add(one_page(1, 0x20000, RecordId::ROOT, 0x10, 6)?), Ok(true));
-    assert_eq!(rt; (rights_of(&facts, id(2), 0x30).bits(), frame_of(&facts, id(2), 0x30)), (6, Some(0x10)));
+    assert_eq!(rt;
+        (
+            rights_of(&facts, id(2), 0x30),
+            frame_of(&facts, id(2), 0x30)
+        ),
+        (Rights::NONE, None)
+    );
+    assert_eq!(rt;
+        facts.add(one_page(1, 0x20000, RecordId::ROOT, 0x10, 6)?),
+        Ok(true)
+    );
+    assert_eq!(rt;
+        (
+            rights_of(&facts, id(2), 0x30).bits(),
+            frame_of(&facts, id(2), 0x30)
+        ),
+        (6, Some(0x10))
+    );
     Ok(())
 }
 
 #[test]
 fn source_outside_parent(rt: HostRuntime) -> Result<(), Fail> {
     let mut facts = Facts::new(rt.alloc());
-    assert_eq!(rt; facts.add(one_page(1, 0x40000, RecordId::ROOT, 0x10, 7)?), Ok(true));
+    assert_eq!(rt;
+        facts.add(one_page(1, 0x40000, RecordId::ROOT, 0x10, 7)?),
+        Ok(true)
+    );
     assert_eq!(rt; facts.add(one_page(2, 0x80000, id(1), 70, 7)?), Ok(true));
-    assert_eq!(rt; (rights_of(&facts, id(2), 0x80), frame_of(&facts, id(2), 0x80)), (Rights::NONE, None));
+    assert_eq!(rt;
+        (
+            rights_of(&facts, id(2), 0x80),
+            frame_of(&facts, id(2), 0x80)
+        ),
+        (Rights::NONE, None)
+    );
     Ok(())
 }
 
 #[test]
 fn revocations_and_ends_reach_children(rt: HostRuntime) -> Result<(), Fail> {
     let mut facts = Facts::new(rt.alloc());
-    assert_eq!(rt; facts.add(one_page(1, 0x20000, RecordId::ROOT, 0x10, 7)?), Ok(true));
+    assert_eq!(rt;
+        facts.add(one_page(1, 0x20000, RecordId::ROOT, 0x10, 7)?),
+        Ok(true)
+    );
     assert_eq!(rt; facts.add(one_page(2, 0x30000, id(1), 0x20, 7)?), Ok(true));
     let cut = Revocation {
         target: id(1),
@@ -67,8 +115,20 @@ fn revocations_and_ends_reach_children(rt: HostRuntime) -> Result<(), Fail> {
         rights: Rights::from_bits(2).ok_or("a set of rights")?,
     };
     assert_eq!(rt; facts.add(Op::Cut(cut)), Ok(true));
-    assert_eq!(rt; (rights_of(&facts, id(1), 0x20).bits(), rights_of(&facts, id(2), 0x30).bits()), (5, 5));
+    assert_eq!(rt;
+        (
+            rights_of(&facts, id(1), 0x20).bits(),
+            rights_of(&facts, id(2), 0x30).bits()
+        ),
+        (5, 5)
+    );
     assert_eq!(rt; facts.add(Op::Closed(Space { number: 1 })), Ok(true));
-    assert_eq!(rt; (rights_of(&facts, id(2), 0x30).bits(), frame_of(&facts, id(2), 0x30)), (0, Some(0x10)));
+    assert_eq!(rt;
+        (
+            rights_of(&facts, id(2), 0x30).bits(),
+            frame_of(&facts, id(2), 0x30)
+        ),
+        (0, Some(0x10))
+    );
     Ok(())
 }

@@ -1,9 +1,7 @@
-use Rattle.std.proofs.Common.{◌≡◌, ◌-◌, ◌<◌, ℕ, true, arith, subst, sym}
+use Rattle.std.proofs.Common.{◌-◌, ◌<◌, ℕ, arith}
 use Rattle.std.specs.Prelude.{max, nat_lt}
 use Rattle.std.proofs.lemmas.Bool.{and_parts, ltb-true}
-use Rattle.mapdb_facts.specs.Looking.{IsGreatest}
 use Rattle.mapdb_facts.specs.Names.{number_limit}
-use Rattle.mapdb_facts.specs.State.{state_of}
 use Rattle.mapdb_facts.specs.declared.operations.Op.TheVariants.{Born}
 use Rattle.mapdb_facts.specs.declared.operations.Record.{Record}
 use Rattle.mapdb_facts.specs.WellFormed.{IsFormedRecord}

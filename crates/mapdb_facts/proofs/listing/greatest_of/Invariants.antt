@@ -1,10 +1,8 @@
 use Rattle.std.proofs.Common.{◌≡◌, ◌≤◌, ◌<◌, drop, length, true}
-use Rattle.std.specs.Prelude.{IfSome}
-use Rattle.mapdb_facts.specs.Looking.{IsFound, IsGreatest}
+use Rattle.mapdb_facts.specs.Looking.{IsGreatest}
 use Rattle.mapdb_facts.specs.Names.{number_limit}
 use Rattle.mapdb_facts.specs.State.{state_of}
-use Rattle.mapdb_facts.specs.WellFormed.{all_formed, is_formed}
-use Rattle.mapdb_facts.specs.declared.operations.Op.TheVariants.{Born}
+use Rattle.mapdb_facts.specs.WellFormed.{all_formed}
 use Rattle.mapdb_facts.proofs.listing.greatest_of.Given as goal
 
 -- what is the greatest among the operations that were looked at

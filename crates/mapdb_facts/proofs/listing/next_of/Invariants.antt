@@ -1,7 +1,6 @@
-use Rattle.std.proofs.Common.{◌≡◌, ◌≤◌, ◌<◌, drop, length, true}
+use Rattle.std.proofs.Common.{◌≡◌, ◌≤◌, drop, length, true}
 use Rattle.std.specs.Prelude.{IfSome}
-use Rattle.mapdb_facts.specs.Looking.{IsFound, IsGreatest}
-use Rattle.mapdb_facts.specs.Names.{number_limit}
+use Rattle.mapdb_facts.specs.Looking.{IsFound}
 use Rattle.mapdb_facts.specs.State.{state_of}
 use Rattle.mapdb_facts.specs.WellFormed.{all_formed, is_formed}
 use Rattle.mapdb_facts.specs.declared.operations.Op.TheVariants.{Born}

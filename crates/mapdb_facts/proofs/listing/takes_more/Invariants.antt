@@ -1,4 +1,4 @@
-use Rattle.std.proofs.Common.{◌≡◌, ◌-◌, ◌≤◌, ◌+◌}
+use Rattle.std.proofs.Common.{◌≡◌, ◌-◌, ◌≤◌}
 use Rattle.mapdb_fpage.specs.Place.{page_total, some_page}
 use Rattle.mapdb_facts.specs.Adding.{takes_more}
 use Rattle.mapdb_facts.specs.State.{state_of}

@@ -1,6 +1,5 @@
-use Rattle.std.proofs.Common.{◌≡◌, ◌∙◌, ◌∷◌, [], Global, List, Some, Vec, ap, subst, sym}
+use Rattle.std.proofs.Common.{◌≡◌, ◌∙◌, ◌∷◌, [], Global, List, Some, Vec, ap, sym}
 use Rattle.std.proofs.lemmas.Bool.{cond-false, cond-true}
-use Rattle.mapdb_fpage.specs.declared.right_sets.Rights.{Rights}
 use Rattle.mapdb_facts.specs.Facts.{records_of_facts, state_of_facts}
 use Rattle.mapdb_facts.specs.Names.{is_first_space, root, same_space}
 use Rattle.mapdb_facts.specs.Records.{behind}

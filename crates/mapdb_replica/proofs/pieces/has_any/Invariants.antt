@@ -1,6 +1,6 @@
 use Rattle.std.proofs.Common.{◌≡◌, ◌-◌, ◌≤◌}
 use Rattle.std.specs.Prelude.{not}
-use Rattle.mapdb_fpage.specs.Place.{page_total, some_page}
+use Rattle.mapdb_fpage.specs.Place.{some_page}
 use Rattle.mapdb_fpage.specs.RightSets.{common, is_empty}
 use Rattle.mapdb_facts.specs.Facts.{state_of_facts}
 use Rattle.mapdb_rights.specs.Right.{rights_at}

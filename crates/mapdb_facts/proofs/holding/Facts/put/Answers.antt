@@ -1,6 +1,6 @@
-use Rattle.std.proofs.Common.{◌≡◌, ◌∙◌, Ok, Result, ap, refl}
+use Rattle.std.proofs.Common.{◌∙◌, Result, ap}
 use Rattle.std.specs.Prelude.{is_ok}
-use Rattle.mapdb_facts.specs.State.{State, join, said, state_of}
+use Rattle.mapdb_facts.specs.State.{join, said, state_of}
 use Rattle.mapdb_facts.specs.declared.checking.OpFault.{OpFault}
 use Rattle.mapdb_facts.proofs.Formed.{all_formed-put}
 use Rattle.mapdb_facts.proofs.Joins.{state_of-put}

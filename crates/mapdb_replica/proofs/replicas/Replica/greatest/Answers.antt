@@ -1,8 +1,7 @@
-use Rattle.std.proofs.Common.{◌≡◌, ◌∙◌, ap, subst}
+use Rattle.std.proofs.Common.{◌∙◌, ap, subst}
 use Rattle.mapdb_facts.specs.Looking.{IsGreatest}
 use Rattle.mapdb_facts.specs.Records.{greatest_number}
 use Rattle.mapdb_facts.specs.State.{State, state_of}
-use Rattle.mapdb_facts.specs.declared.operations.Record.{Record}
 use Rattle.mapdb_facts.proofs.Ascending.{records_of-state}
 use Rattle.mapdb_replica.specs.Replica.{Log}
 use Rattle.mapdb_replica.proofs.Issuing.{free_from}

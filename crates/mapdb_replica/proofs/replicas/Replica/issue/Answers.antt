@@ -1,5 +1,4 @@
-use Rattle.std.proofs.Common.{◌≡◌, ◌∙◌, ◌++◌, ◌∷◌, [], ◌<◌, ◌≤◌, List, ap, length, subst, sym, true, Ok}
-use Rattle.mapdb_facts.specs.Adding.{added}
+use Rattle.std.proofs.Common.{◌≡◌, ◌∙◌, ◌++◌, ◌∷◌, [], ◌<◌, List, ap, length, subst, sym, true}
 use Rattle.mapdb_facts.specs.State.{state_of}
 use Rattle.mapdb_facts.specs.declared.operations.Op.{Op}
 use Rattle.mapdb_replica.specs.Keeping.{IsKept}
