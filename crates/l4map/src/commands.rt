@@ -1,6 +1,6 @@
 //! The command line.
 
-ghost use Rattle.std.specs.Prelude.{◌≡◌, ◌⊎◌, None, IfOk, IfErr, map};
+ghost use Rattle.std.specs.Prelude.{◌≡◌, ◌⊎◌, Some, None, IfOk, IfErr, map};
 ghost use Rattle.std.specs.Option.{option_and_then};
 ghost use Rattle.clap.specs.Words.{app_of, kind_of, subcommand_name_of};
 ghost use Rattle.l4map.specs.Commands.{l4map, job_named, job_in};
@@ -42,11 +42,13 @@ fn job_met(matches: &ArgMatches<'_>) -> Option<Job>
     if name == "run" { Some(Job::Run) } else { None }
 }
 
-/// What the words ask for, or why they ask for nothing.
-pub fn job_of<'a, S: AsStr>(alloc: Global, words: &'a [S]) -> Result<Option<Job>, Error>
-    ensures ok { IfOk result (λ job. job ≡ job_in (map S.text words.now)) }
+/// What the words ask for. The error says why clap refuses them, which is also its answer to a call for help, or that memory
+/// was wanted.
+pub fn job_of<'a, S: AsStr>(alloc: Global, words: &'a [S]) -> Result<Job, Error>
+    ensures ok { IfOk result (λ job. job_in (map S.text words.now) ≡ Some job) }
     ensures err { IfErr result (λ e. (kind_of e ≡ ErrorKind.OutOfMemory) ⊎ (job_in (map S.text words.now) ≡ None)) }
 {
     let matches = command(alloc)?.try_get_matches_from(words)?;
-    Ok(job_met(&matches))
+    // A subcommand is required, and clap answers `help` by an error.
+    Ok(job_met(&matches).unwrap())
 }

@@ -112,12 +112,11 @@ pub fn serve<T: AllocGlobal, S: AsStr, R: Source, W: Sink, E: Sink>(
 {
     let alloc = rt.alloc();
     match job_of(alloc, words) {
-        Ok(Some(Job::Run)) => {
+        Ok(Job::Run) => {
             let outcome = run(alloc, reader, writer);
             tell(errors, message(&outcome));
             status(&outcome)
         }
-        Ok(None) => 2,
         Err(error) => refuse(alloc, &error, errors),
     }
 }

@@ -11,7 +11,6 @@ mod pieces;
 mod replicas;
 
 pub use faults::{IssueFault, MOST_OPERATIONS};
-pub use pieces::{Holder, Piece};
 pub use replicas::Replica;
 
 #[cfg(test)]
