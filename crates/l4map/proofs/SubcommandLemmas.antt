@@ -99,7 +99,7 @@ step_keeps c word w h value kept quiet = position_keeps c (arg_by_index c w.posi
 turn_keeps : (s : Shape) (names : Names) (stop : Option (Text × List Text)) (w : Walk) (word : Text)
     → s.disable_help_subcommand ≡ false → is_help stop ≡ false → is_help w.stopped ≡ false
     → (if is_some stop then [] else or_else (word_fault s names w.is_trailing w.waiting word w.held)
-        (step_fault s w.position (word_met s.rules names w.is_trailing w.waiting w.position word w.held).0 (word_met s.rules names w.is_trailing w.waiting w.position word w.held).1)) ≡ []
+    (step_fault s w.position (word_met s.rules names w.is_trailing w.waiting w.position word w.held).0 (word_met s.rules names w.is_trailing w.waiting w.position word w.held).1)) ≡ []
     → is_help (walked_from s.rules names stop w word).stopped ≡ false
 unfolding is_help
 turn_keeps s names (Some p) w word on is kept none = is
@@ -125,7 +125,7 @@ check_has : (s : Shape) (rows : List Row) (has : Bool) → s.subcommand_required
 check_has s rows true required none = refl
 check_has s rows false required none =
     wants_none (s.arg_required_else_help && not (list_any (λ r. explicit_source r.source) rows)) s.subcommand_required
-        (not (s.subcommand_negates_reqs && false) && list_any (λ a. a.required && not (is_given a.id rows)) s.rules) required none
+    (not (s.subcommand_negates_reqs && false) && list_any (λ a. a.required && not (is_given a.id rows)) s.rules) required none
 
 bytes_eq-sym : (xs ys : List ℕ) → bytes_eq xs ys ≡ true → bytes_eq ys xs ≡ true
 bytes_eq-sym xs ys same = (bytes_eq-Decides ys xs).1 (sym ((bytes_eq-Decides xs ys).0 same))
@@ -162,7 +162,7 @@ checks s names h words has below none =
     let defaults = defaults_fault (settled s.rules end).rows s.rules in
     let settle = settle_fault s.rules s.args_override_self end in
     second_none defaults last (second_none settle (or_else defaults last)
-        (second_none below (or_else settle (or_else defaults last)) (second_none (walk_fault s names (walk_from h) words) _ none)))
+    (second_none below (or_else settle (or_else defaults last)) (second_none (walk_fault s names (walk_from h) words) _ none)))
 
 -- the words that clap takes
 pub taken_is_run : (words : List Text) → fault_of l4map words ≡ [] → option_and_then job_named (option_map (λ p. p.0) (subcommand_of l4map words)) ≡ Some Run

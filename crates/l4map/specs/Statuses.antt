@@ -1,5 +1,5 @@
 -- The statuses of the program, and what it tells on the errors.
-use Rattle.std.specs.Prelude.{◌≡◌, ℕ, ⊤, List, [], Bool, true, false, Option, Result, Ok, Err, codes}
+use Rattle.std.specs.Prelude.{◌≡◌, ◌⊎◌, ℕ, ⊤, List, [], Bool, true, false, Option, Result, Ok, Err, codes}
 use Rattle.std.specs.Io.KnownBytes.{Appends}
 use Rattle.mapdb_script.specs.Fronts.{BeginsWith}
 use Rattle.mapdb_script.specs.declared.fault.Summary.{Summary}
@@ -34,6 +34,15 @@ message_of (Err fault.Memory) = memory_message
 abbrev pub IsTold : Option (List ℕ) → Option (List ℕ) → Bool → List ℕ → Type 0
 IsTold old new has_failed message =
     (text : List ℕ) × Appends old new text × BeginsWith message text × (has_failed ≡ false → text ≡ message)
+
+-- Memory was wanted, which is told.
+abbrev pub WantsMemory : ℕ → Option (List ℕ) → Option (List ℕ) → Bool → Type 0
+WantsMemory status old new has_failed = (status ≡ 4) × IsTold old new has_failed memory_message
+
+-- Words were refused, which a text of clap's tells, or there was no memory to refuse them.
+abbrev pub Refuses : ℕ → Option (List ℕ) → Option (List ℕ) → Bool → Type 0
+Refuses status old new has_failed =
+    ((status ≡ 2) × ((text : List ℕ) × IsTold old new has_failed text)) ⊎ WantsMemory status old new has_failed
 
 -- Where a run blames the reader or the writer, that one has failed.
 abbrev pub BlamesFailed : Result Summary ScriptFault → Bool → Bool → Type 0

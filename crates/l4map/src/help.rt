@@ -25,7 +25,7 @@ Lines of a script:
 Words of a line:
   N, P, S, R  decimal; processors count from 0, and space 0 stands for physical memory
   BASE, ADDR  an address, in hexadecimal without a prefix
-  FPAGE       ADDR/ORDER, the 2^ORDER bytes from ADDR on; `all`, the whole space; or `nil`
+  FPAGE       ADDR/ORDER, the 2^ORDER bytes from ADDR on, with ORDER decimal; or `all`, or `nil`
   SEND        FPAGE:RIGHTS, the rights as rwx with - for each one that is missing
 
 Example, where the window is larger than the fpage and the send base says where in it:

@@ -8,7 +8,7 @@ ghost use Rattle.mapdb_script.specs.Run.{IsOver, Tells};
 ghost use Rattle.mapdb_script.specs.declared.fault.Summary.{Summary as SummaryOf};
 ghost use Rattle.mapdb_script.specs.declared.fault.ScriptFault.{ScriptFault as FaultOf};
 ghost use Rattle.l4map.specs.Commands.{job_in};
-ghost use Rattle.l4map.specs.Statuses.{BlamesFailed, IsTold, memory_message, message_of, status_of, words_message};
+ghost use Rattle.l4map.specs.Statuses.{BlamesFailed, IsTold, Refuses, WantsMemory, message_of, status_of, words_message};
 
 use crate::commands::{Job, job_of};
 use crate::messages::{OUT_OF_MEMORY, WORDS_ARE_NO_TEXT, message, tell};
@@ -33,8 +33,7 @@ fn status(outcome: &Result<Summary, ScriptFault>) -> u8
 
 /// Tells that memory was wanted, and answers the status.
 fn want_memory<E: Sink>(errors: &mut E) -> u8
-    ensures status { result ≡ 4 }
-    ensures told { IsTold (E.written errors.old) (E.written errors.new) (E.has_failed errors.new) memory_message }
+    ensures { WantsMemory result (E.written errors.old) (E.written errors.new) (E.has_failed errors.new) }
 {
     tell(errors, OUT_OF_MEMORY);
     4
@@ -42,12 +41,9 @@ fn want_memory<E: Sink>(errors: &mut E) -> u8
 
 /// Tells why clap refuses the words, or the help that they call for, and answers the status.
 fn refuse<E: Sink>(alloc: Global, error: &Error, errors: &mut E) -> u8
-    ensures memory { kind_of error.now ≡ ErrorKind.OutOfMemory → (result ≡ 4)
-        × IsTold (E.written errors.old) (E.written errors.new) (E.has_failed errors.new) memory_message }
-    ensures told { ((result ≡ 2) × ((text : List ℕ)
-        × IsTold (E.written errors.old) (E.written errors.new) (E.has_failed errors.new) text))
-        ⊎ ((result ≡ 4)
-        × IsTold (E.written errors.old) (E.written errors.new) (E.has_failed errors.new) memory_message) }
+    ensures memory { kind_of error.now ≡ ErrorKind.OutOfMemory →
+        WantsMemory result (E.written errors.old) (E.written errors.new) (E.has_failed errors.new) }
+    ensures told { Refuses result (E.written errors.old) (E.written errors.new) (E.has_failed errors.new) }
 {
     if let ErrorKind::OutOfMemory = error.kind() {
         return want_memory(errors);
@@ -64,8 +60,8 @@ fn refuse<E: Sink>(alloc: Global, error: &Error, errors: &mut E) -> u8
 /// Tells why the words of the command line could not be had, and answers the status: 4 where memory was wanted, else 2, since
 /// a word is no UTF-8.
 pub fn refuse_unread<E: Sink>(kind: io::ErrorKind, errors: &mut E) -> u8
-    ensures memory { kind ≡ io_kind.OutOfMemory → (result ≡ 4)
-        × IsTold (E.written errors.old) (E.written errors.new) (E.has_failed errors.new) memory_message }
+    ensures memory { kind ≡ io_kind.OutOfMemory →
+        WantsMemory result (E.written errors.old) (E.written errors.new) (E.has_failed errors.new) }
     ensures words { kind ≢ io_kind.OutOfMemory → (result ≡ 2)
         × IsTold (E.written errors.old) (E.written errors.new) (E.has_failed errors.new) words_message }
 {
@@ -88,12 +84,11 @@ pub fn serve<T: AllocGlobal, S: AsStr, R: Source, W: Sink, E: Sink>(
 ) -> u8
     requires reader_works { R.has_failed reader.old ≡ false }
     requires writer_works { W.has_failed writer.old ≡ false }
-    requires errors_work { E.has_failed errors.old ≡ false }
 
     // Where clap reads the words as `run`.
     ensures run { job_in (map S.text words.now) ≡ Some Job.Run →
-        ((result ≡ 4) × (reader.new ≡ reader.old) × (writer.new ≡ writer.old)
-        × IsTold (E.written errors.old) (E.written errors.new) (E.has_failed errors.new) memory_message)
+        ((reader.new ≡ reader.old) × (writer.new ≡ writer.old)
+        × WantsMemory result (E.written errors.old) (E.written errors.new) (E.has_failed errors.new))
         ⊎ ((outcome : Result SummaryOf FaultOf) × (input text : List ℕ)
         × Consumes (R.left reader.old) (R.left reader.new) input
         × Appends (W.written writer.old) (W.written writer.new) text
@@ -105,10 +100,7 @@ pub fn serve<T: AllocGlobal, S: AsStr, R: Source, W: Sink, E: Sink>(
     // Where clap refuses them.
     ensures refused { job_in (map S.text words.now) ≡ None →
         (reader.new ≡ reader.old) × (writer.new ≡ writer.old)
-        × (((result ≡ 2) × ((text : List ℕ)
-        × IsTold (E.written errors.old) (E.written errors.new) (E.has_failed errors.new) text))
-        ⊎ ((result ≡ 4)
-        × IsTold (E.written errors.old) (E.written errors.new) (E.has_failed errors.new) memory_message)) }
+        × Refuses result (E.written errors.old) (E.written errors.new) (E.has_failed errors.new) }
 {
     let alloc = rt.alloc();
     match job_of(alloc, words) {
