@@ -5,8 +5,6 @@ ghost use Rattle.std.specs.Io.KnownBytes.{Appends, Consumes};
 ghost use Rattle.std.specs.declared.io.ErrorKind.TheVariants as io_kind;
 ghost use Rattle.clap.specs.Words.{kind_of};
 ghost use Rattle.mapdb_script.specs.Run.{IsOver, Tells};
-ghost use Rattle.mapdb_script.specs.declared.fault.Summary.{Summary as SummaryOf};
-ghost use Rattle.mapdb_script.specs.declared.fault.ScriptFault.{ScriptFault as FaultOf};
 ghost use Rattle.l4map.specs.Commands.{job_in};
 ghost use Rattle.l4map.specs.Statuses.{BlamesFailed, IsTold, Refuses, WantsMemory, message_of, status_of, words_message};
 
@@ -89,7 +87,7 @@ pub fn serve<T: AllocGlobal, S: AsStr, R: Source, W: Sink, E: Sink>(
     ensures run { job_in (map S.text words.now) ≡ Some Job.Run →
         ((reader.new ≡ reader.old) × (writer.new ≡ writer.old)
         × WantsMemory result (E.written errors.old) (E.written errors.new) (E.has_failed errors.new))
-        ⊎ ((outcome : Result SummaryOf FaultOf) × (input text : List ℕ)
+        ⊎ ((outcome : Result Summary ScriptFault) × (input text : List ℕ)
         × Consumes (R.left reader.old) (R.left reader.new) input
         × Appends (W.written writer.old) (W.written writer.new) text
         × Tells outcome input text (IsOver (R.has_ended reader.new) (R.left reader.new))

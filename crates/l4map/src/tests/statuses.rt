@@ -1,24 +1,28 @@
 //! The statuses, the messages, and what stands on the streams.
 
-use super::streams::{Page, Script};
+use super::streams::{Script, Transcript};
 use crate::served::{refuse_unread, serve};
 use std::io::ErrorKind;
 use std::test::Fail;
 
+/// The words that ask for a run.
 const RUN: &[&str] = &["l4map", "run"];
 
+/// One map, and queries in and beyond the place where it leads.
 const SCRIPT: &[u8] =
     b"processors 1\nmap 0 0 10000/14:rw- 8000 1 40000/16\nrights 0 1 48000\nrights 0 1 4b000\nrights 0 1 4c000\n";
 
+/// What the script writes.
 const OUTPUT: &[u8] = b"records 1.0\nrights 00010:rw-\nrights 00013:rw-\nrights none\n";
 
+/// Bytes enough for each text here.
 const ROOM: usize = 65_536;
 
 #[test]
 fn first_path(rt: HostRuntime) {
     let mut reader = Script::new(SCRIPT);
-    let mut writer = Page::new(rt.alloc(), ROOM);
-    let mut errors = Page::new(rt.alloc(), ROOM);
+    let mut writer = Transcript::new(rt.alloc(), ROOM);
+    let mut errors = Transcript::new(rt.alloc(), ROOM);
     assert_eq!(rt; serve(&rt, RUN, &mut reader, &mut writer, &mut errors), 0);
     assert_eq!(rt; writer.bytes.as_slice(), OUTPUT);
     assert!(rt; errors.bytes.is_empty());
@@ -27,8 +31,8 @@ fn first_path(rt: HostRuntime) {
 #[test]
 fn a_faulty_line(rt: HostRuntime) {
     let mut reader = Script::new(b"processors 1\nrights 0 1 48000\nmove 0 1\n");
-    let mut writer = Page::new(rt.alloc(), ROOM);
-    let mut errors = Page::new(rt.alloc(), ROOM);
+    let mut writer = Transcript::new(rt.alloc(), ROOM);
+    let mut errors = Transcript::new(rt.alloc(), ROOM);
     assert_eq!(rt; serve(&rt, RUN, &mut reader, &mut writer, &mut errors), 1);
     assert_eq!(rt;
         writer.bytes.as_slice(),
@@ -40,8 +44,8 @@ fn a_faulty_line(rt: HostRuntime) {
 #[test]
 fn a_reader_that_fails(rt: HostRuntime) {
     let mut reader = Script::failing(&SCRIPT[..60]);
-    let mut writer = Page::new(rt.alloc(), ROOM);
-    let mut errors = Page::new(rt.alloc(), ROOM);
+    let mut writer = Transcript::new(rt.alloc(), ROOM);
+    let mut errors = Transcript::new(rt.alloc(), ROOM);
     assert_eq!(rt; serve(&rt, RUN, &mut reader, &mut writer, &mut errors), 3);
     assert_eq!(rt; writer.bytes.as_slice(), b"records 1.0\n".as_slice());
     assert_eq!(rt; errors.bytes.as_slice(), b"l4map: read failed\n".as_slice());
@@ -50,8 +54,8 @@ fn a_reader_that_fails(rt: HostRuntime) {
 #[test]
 fn a_writer_that_fails(rt: HostRuntime) {
     let mut reader = Script::new(SCRIPT);
-    let mut writer = Page::new(rt.alloc(), 20);
-    let mut errors = Page::new(rt.alloc(), ROOM);
+    let mut writer = Transcript::new(rt.alloc(), 20);
+    let mut errors = Transcript::new(rt.alloc(), ROOM);
     assert_eq!(rt; serve(&rt, RUN, &mut reader, &mut writer, &mut errors), 3);
     assert_eq!(rt; writer.bytes.as_slice(), &OUTPUT[..20]);
     assert_eq!(rt;
@@ -65,8 +69,8 @@ fn errors_that_fail_change_nothing(rt: HostRuntime) {
     for (words, status) in [(RUN, 3), (&["l4map", "walk"], 2), (&["l4map", "help"], 2)] {
         for room in [0, 7] {
             let mut reader = Script::failing(b"");
-            let mut writer = Page::new(rt.alloc(), ROOM);
-            let mut errors = Page::new(rt.alloc(), room);
+            let mut writer = Transcript::new(rt.alloc(), ROOM);
+            let mut errors = Transcript::new(rt.alloc(), room);
             let answer = serve(&rt, words, &mut reader, &mut writer, &mut errors);
             assert_eq!(rt; answer, status, "with room for {room}");
             assert_eq!(rt; errors.bytes.len(), room);
@@ -89,8 +93,8 @@ fn words_that_clap_refuses(rt: HostRuntime) -> Result<(), Fail> {
     ];
     for (words, told) in cases {
         let mut reader = Script::new(SCRIPT);
-        let mut writer = Page::new(rt.alloc(), ROOM);
-        let mut errors = Page::new(rt.alloc(), ROOM);
+        let mut writer = Transcript::new(rt.alloc(), ROOM);
+        let mut errors = Transcript::new(rt.alloc(), ROOM);
         let status = serve(&rt, words, &mut reader, &mut writer, &mut errors);
         let text = String::from_utf8(errors.bytes)?;
         assert_eq!(rt; status, 2, "{text}");
@@ -106,13 +110,13 @@ fn words_that_clap_refuses(rt: HostRuntime) -> Result<(), Fail> {
 
 #[test]
 fn words_that_cannot_be_had(rt: HostRuntime) {
-    let mut errors = Page::new(rt.alloc(), ROOM);
+    let mut errors = Transcript::new(rt.alloc(), ROOM);
     assert_eq!(rt; refuse_unread(ErrorKind::InvalidData, &mut errors), 2);
     assert_eq!(rt;
         errors.bytes.as_slice(),
         b"l4map: the command line is not UTF-8\n".as_slice()
     );
-    let mut errors = Page::new(rt.alloc(), ROOM);
+    let mut errors = Transcript::new(rt.alloc(), ROOM);
     assert_eq!(rt; refuse_unread(ErrorKind::OutOfMemory, &mut errors), 4);
     assert_eq!(rt;
         errors.bytes.as_slice(),

@@ -74,19 +74,19 @@ impl Source for Script<'_> {
 
 /// A writer that keeps what it is given, one byte a call, and fails once it is full.
 #[derive(Drop)]
-pub struct Page {
+pub struct Transcript {
     /// What was written.
     pub bytes: Vec<u8>,
     room: usize,
     failed: bool,
 }
 
-impl Page {
+impl Transcript {
     /// A writer with room for so many bytes.
     pub fn new(alloc: Global, room: usize) -> Self
-        ensures { ⟦<Page as Sink>⟧.has_failed result ≡ false }
+        ensures { ⟦<Transcript as Sink>⟧.has_failed result ≡ false }
     {
-        Page {
+        Transcript {
             bytes: Vec::new(alloc),
             room,
             failed: false,
@@ -94,7 +94,7 @@ impl Page {
     }
 }
 
-impl Sink for Page {
+impl Sink for Transcript {
     ghost written = { λ s. None };
 
     ghost has_failed = { λ s. s.failed };
