@@ -262,7 +262,7 @@ tail_found x xs ys rising rising' same id =
       | inr miss ↦ sym (cond-false (same_id x.id id) (Some x) (find_record xs id) miss) ∙ same id ∙ cond-false (same_id x.id id) (Some x) (find_record ys id) miss
     ]
 
-same_lists : (xs ys : List Record) → IsAscending by_id xs → IsAscending by_id ys → ((id : RecordId) → find_record xs id ≡ find_record ys id) → xs ≡ ys
+pub same_lists : (xs ys : List Record) → IsAscending by_id xs → IsAscending by_id ys → ((id : RecordId) → find_record xs id ≡ find_record ys id) → xs ≡ ys
 same_lists [] [] rising rising' same = refl
 same_lists [] (y ∷ ys) rising rising' same = absurd (none_some y (same y.id ∙ among_find (y ∷ ys) y rising' (inl refl)))
 same_lists (x ∷ xs) [] rising rising' same = absurd (none_some x (sym (same x.id) ∙ among_find (x ∷ xs) x rising (inl refl)))

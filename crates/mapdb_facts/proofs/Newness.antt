@@ -18,7 +18,8 @@ use Rattle.mapdb_facts.specs.Adding.{cut_at, is_held, is_new, takes_more}
 use Rattle.mapdb_facts.specs.Names.{same_id, same_space}
 use Rattle.mapdb_facts.specs.State.{Atom, End, Gives, Has, Rec, Rev, State, cuts, first_of, join, said}
 use Rattle.mapdb_facts.proofs.Atoms.{same_state}
-use Rattle.mapdb_facts.proofs.Exact.{exact_record, same_record_itself}
+use Rattle.mapdb_facts.specs.Exact.{exact_record}
+use Rattle.mapdb_facts.proofs.SameRecords.{same_record_itself}
 use Rattle.mapdb_facts.proofs.SameNames.{same_id_itself, same_id_true, same_space_true}
 
 first_of_none : (o : Option Record) → first_of o None ≡ o

@@ -5,4 +5,9 @@ pub mod Adding
 pub mod Order
 pub mod Looking
 pub mod Records
+pub mod Exact
+pub mod Values
+pub mod Kept
 pub mod Facts
+pub mod Taking
+pub mod Merging

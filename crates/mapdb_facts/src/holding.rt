@@ -1,10 +1,12 @@
 //! What a set of operations says.
 
 use crate::checking::{OpFault, check};
-use crate::listing::{greatest_of, is_ended, next_of, record_at, taken_from, takes_more};
+use crate::keys::Part;
 use crate::names::{NUMBER_LIMIT, RecordId, Space};
-use crate::operations::{Op, Record};
+use crate::operations::{Op, Record, Revocation};
+use crate::parts::{are_taken, taken_at};
 use mapdb_fpage::Rights;
+use mapdb_join::{BitsOr, Flat, Grow, JoinMap, MergePart};
 use std::alloc::{AllocError, Global};
 use std::marker::Model;
 
@@ -23,37 +25,44 @@ pub enum AddFault {
 /// and again.
 #[derive(Drop)]
 pub struct Facts {
-    ops: Vec<Op>,
+    /// The records, by number and then by processor.
+    pub(crate) records: JoinMap<u64, JoinMap<u8, Flat<Record>>>,
+    /// The bits of the rights that are taken, by record and then by part.
+    pub(crate) cuts: JoinMap<RecordId, JoinMap<Part, BitsOr>>,
+    /// The spaces that have ended.
+    pub(crate) ended: Grow<Space>,
 }
 
 impl Model for Facts {
-    ghost use Rattle.std.specs.Prelude.{◌≡◌, List, true};
-    ghost use Rattle.mapdb_facts.specs.WellFormed.{all_formed};
-    ghost use Rattle.mapdb_facts.specs.declared.operations.Op.{Op};
+    ghost use Rattle.mapdb_facts.specs.Kept.{IsFacts, Kept};
 
-    ghost Value = { List Op };
+    ghost Value = { Kept };
 
-    ghost view = { λ f. f.ops.items };
+    ghost view = { λ f. record { records = f.records; cuts = f.cuts; ended = f.ended } };
 
-    ghost invariant = { λ f. all_formed f.ops.items ≡ true };
+    ghost invariant = { λ f. IsFacts f.records f.cuts };
 }
 
 impl Facts {
-    ghost use Rattle.std.specs.Prelude.{◌≡◌, ◌⊎◌, ◌<◌, true, false, Ok, Err, IfOk, IfErr, IfSome, IsOk, IsSome, OnOk, OnErr, Result, Bool};
+    ghost use Rattle.std.specs.Prelude.{◌≡◌, ◌⊎◌, ◌<◌, ◌↔◌, true, false, Ok, Err, None, Some, IfOk, IfErr, IfSome, IsOk, IsSome, IsTrue, OnOk, OnErr, Result, Bool};
     ghost use Rattle.mapdb_facts.specs.Adding.{added, clash_of, cut_at, is_new};
     ghost use Rattle.mapdb_facts.specs.Facts.{records_of_facts, state_of_facts};
-    ghost use Rattle.mapdb_facts.specs.Looking.{IsFound, IsGreatest};
+    ghost use Rattle.mapdb_facts.specs.Looking.{IsFirstAbove, IsFound, IsGreatest, IsNextOfNumber};
     ghost use Rattle.mapdb_facts.specs.Records.{ComesNext, greatest_number};
     ghost use Rattle.mapdb_facts.specs.State.{join, nothing, said};
-    ghost use Rattle.mapdb_facts.specs.WellFormed.{IsFormedRecord, checked};
+    ghost use Rattle.mapdb_facts.specs.Taking.{Knows};
+    ghost use Rattle.mapdb_facts.specs.WellFormed.{IsFormedRecord, checked, is_formed};
     ghost use Rattle.mapdb_facts.specs.declared.holding.AddFault.{AddFault};
+    ghost use Rattle.mapdb_facts.specs.declared.operations.Op.{Op};
 
     /// No facts. It takes no memory.
     pub fn new(alloc: Global) -> Facts
         ensures { state_of_facts result ≡ nothing }
     {
         Facts {
-            ops: Vec::new(alloc),
+            records: JoinMap::new(alloc),
+            cuts: JoinMap::new(alloc),
+            ended: Grow::new(alloc),
         }
     }
 
@@ -63,7 +72,37 @@ impl Facts {
         ensures named { IfSome result (λ r. r.id ≡ id) }
         ensures formed { IfSome result IsFormedRecord }
     {
-        record_at(self.ops.as_slice(), id)
+        let by_processor = self.records.get(&id.number)?;
+        let held = by_processor.get(&id.processor)?;
+        Some(held.get())
+    }
+
+    /// The record of this number with the least processor above another.
+    fn next_of_number(&self, after: RecordId) -> Option<Record>
+        ensures { IsNextOfNumber (state_of_facts self.now) after result }
+    {
+        let by_processor = self.records.get(&after.number)?;
+        let (_, held) = by_processor.next(Some(after.processor))?;
+        Some(held.get())
+    }
+
+    /// The record with the least name of those whose numbers are above another, or of all.
+    fn first_above(&self, number: Option<u64>) -> Option<Record>
+        ensures { IsFirstAbove (state_of_facts self.now) number result }
+    {
+        let (_, by_processor) = self.records.next(number)?;
+        let (_, held) = by_processor.next(None)?;
+        Some(held.get())
+    }
+
+    /// The held record with the least name above this one.
+    fn next_after(&self, after: RecordId) -> Option<Record>
+        ensures { IsFound (state_of_facts self.now) (Some after) result }
+    {
+        match self.next_of_number(after) {
+            Some(held) => Some(held),
+            None => self.first_above(Some(after.number)),
+        }
     }
 
     /// The held record with the least name above another, or of all.
@@ -72,7 +111,12 @@ impl Facts {
         ensures listed { ComesNext (records_of_facts self.now) after result }
         ensures formed { IfSome result IsFormedRecord }
     {
-        next_of(self.ops.as_slice(), after)
+        // The proof needs what is true of the maps, which is known where one of them is used.
+        let _records = &self.records;
+        match after {
+            Some(id) => self.next_after(id),
+            None => self.first_above(None),
+        }
     }
 
     /// The greatest number of a held record, 0 where none is held.
@@ -81,21 +125,37 @@ impl Facts {
         ensures listed { result ≡ greatest_number (records_of_facts self.now) }
         ensures limit { result < NUMBER_LIMIT }
     {
-        greatest_of(self.ops.as_slice())
+        match self.records.last() {
+            Some(number) => number,
+            None => 0,
+        }
     }
 
     /// The rights that revocations take from the record at the page.
     pub fn revoked(&self, id: RecordId, page: u32) -> Rights
         ensures { result ≡ cut_at (state_of_facts self.now) id page }
     {
-        taken_from(self.ops.as_slice(), id, page)
+        match self.cuts.get(&id) {
+            Some(parts) => taken_at(parts.entries(), page),
+            None => Rights::NONE,
+        }
     }
 
     /// Whether the space has ended.
     pub fn ended(&self, space: Space) -> bool
         ensures { result ≡ (state_of_facts self.now).is_ended space }
     {
-        is_ended(self.ops.as_slice(), space)
+        self.ended.has(&space)
+    }
+
+    /// Whether each right of the revocation is taken at each page of its part.
+    pub(crate) fn knows_cut(&self, cut: &Revocation) -> bool
+        ensures { IsTrue result ↔ Knows (state_of_facts self.now) (Op.Cut cut.now) }
+    {
+        match self.cuts.get(&cut.target) {
+            Some(parts) => are_taken(parts.entries(), cut),
+            None => cut.rights.is_none(),
+        }
     }
 
     /// Whether the operation, which is well-formed, says something that is not held.
@@ -107,7 +167,7 @@ impl Facts {
                 Some(held) => held != *mapping,
                 None => true,
             },
-            Op::Cut(cut) => takes_more(self.ops.as_slice(), cut),
+            Op::Cut(cut) => !self.knows_cut(cut),
             Op::Closed(space) => !self.ended(*space),
         }
     }
@@ -127,14 +187,55 @@ impl Facts {
         }
     }
 
-    /// Adds a well-formed operation.
+    /// Adds a well-formed record, where no different one of its name is held.
+    fn add_record(&mut self, mapping: Record) -> Result<(), AllocError>
+        requires formed { is_formed (Op.Born mapping) ≡ true }
+        requires agrees { clash_of (state_of_facts self.old) (Op.Born mapping) ≡ None }
+        ensures said { OnOk result (state_of_facts self.new ≡ join (state_of_facts self.old) (said (Op.Born mapping))) }
+        ensures kept { OnErr result (self.new ≡ self.old) }
+    {
+        let id = mapping.id;
+        let named = (id.processor, mapping);
+        if let Err(_) = self.records.merge_part((id.number, named)) {
+            return Err(AllocError);
+        }
+        Ok(())
+    }
+
+    /// Adds a revocation.
+    fn add_cut(&mut self, cut: Revocation) -> Result<(), AllocError>
+        ensures said { OnOk result (state_of_facts self.new ≡ join (state_of_facts self.old) (said (Op.Cut cut))) }
+        ensures kept { OnErr result (self.new ≡ self.old) }
+    {
+        let part = Part { place: cut.part };
+        let bits = cut.rights.bits();
+        if let Err(_) = self.cuts.merge_part((cut.target, (part, bits))) {
+            return Err(AllocError);
+        }
+        Ok(())
+    }
+
+    /// Adds the end of a space.
+    fn add_end(&mut self, space: Space) -> Result<(), AllocError>
+        ensures said { OnOk result (state_of_facts self.new ≡ join (state_of_facts self.old) (said (Op.Closed space))) }
+        ensures kept { OnErr result (self.new ≡ self.old) }
+    {
+        self.ended.add(space)?;
+        Ok(())
+    }
+
+    /// Adds a well-formed operation that may be added.
     fn put(&mut self, op: Op) -> Result<(), AllocError>
-        requires { checked op ≡ Ok tt }
+        requires formed { checked op ≡ Ok tt }
+        requires agrees { clash_of (state_of_facts self.old) op ≡ None }
         ensures said { OnOk result (state_of_facts self.new ≡ join (state_of_facts self.old) (said op)) }
         ensures kept { OnErr result (self.new ≡ self.old) }
     {
-        self.ops.push(op)?;
-        Ok(())
+        match op {
+            Op::Born(mapping) => self.add_record(mapping),
+            Op::Cut(cut) => self.add_cut(cut),
+            Op::Closed(space) => self.add_end(space),
+        }
     }
 
     /// Adds an operation, and answers whether it was new. Each fault leaves the facts as they were.

@@ -1,6 +1,7 @@
 //! Laws of operations by their atoms, each the contract of a function that does nothing.
 
 ghost use Rattle.std.specs.Prelude.{◌≡◌, List, ◌++◌};
+ghost use Rattle.mapdb_facts.specs.Merging.{BoundedAgree, JoinIsUnion};
 ghost use Rattle.mapdb_facts.specs.Order.{ClashIsExact, JoinIsLeast, NewIsExact, OldAddsNothing, OrderIsFree};
 ghost use Rattle.mapdb_facts.specs.Records.{RecordsAreListed, RecordsAreOfState};
 ghost use Rattle.mapdb_facts.specs.State.{SameAtoms, State, join, state_of};
@@ -20,6 +21,13 @@ pub fn joining()
     ensures idempotent { (S : State) → join S S ≡ S }
     ensures least { JoinIsLeast }
     ensures clash { ClashIsExact }
+{}
+
+/// The join of two states that agree has the atoms of both and no others, so it is the least state that includes both.
+/// No state includes two that do not agree.
+pub fn merging()
+    ensures union { JoinIsUnion }
+    ensures bound { BoundedAgree }
 {}
 
 /// An operation is new exactly where it gives an atom that is not held, and else adds nothing.

@@ -4,6 +4,9 @@ use crate::{AddFault, Facts, Op, OpFault, Record, RecordId, Revocation, Space, c
 use mapdb_fpage::{Fpage, Rights};
 use std::test::Fail;
 
+mod merging;
+mod plain;
+
 /// The name of a record of processor 0.
 fn id(number: u64) -> RecordId {
     RecordId {

@@ -6,7 +6,9 @@ use crate::bounds::{ADDRESS_LIMIT, LEAST_ORDER, PAGE_BYTES, PAGE_LIMIT, TOP_ORDE
 use std::marker::Model;
 
 /// A place: the `2^(order - 12)` pages from `first_page` on, aligned to their own number, within the space.
-#[derive(Clone, Copy, Debug, PartialEq, Eq)]
+///
+/// Places are ordered by their first page, then by their order.
+#[derive(Clone, Copy, Debug, PartialEq, Eq, PartialOrd, Ord)]
 pub struct Fpage {
     first_page: u32,
     order: u8,

@@ -14,7 +14,7 @@ use Rattle.mapdb_facts.specs.declared.names.RecordId.{RecordId}
 use Rattle.mapdb_facts.specs.declared.operations.Op.{Op}
 use Rattle.mapdb_facts.specs.declared.operations.Op.TheVariants.{Born, Closed, Cut}
 use Rattle.mapdb_facts.specs.declared.operations.Record.{Record}
-use Rattle.mapdb_facts.proofs.Ascending.{records_of-state}
+use Rattle.mapdb_facts.proofs.Listed.{records_of-facts}
 use Rattle.mapdb_facts.proofs.Formed.{all_formed-put}
 use Rattle.mapdb_facts.proofs.Joins.{state_of-put}
 use Rattle.mapdb_replica.specs.Keeping.{IsKept}
@@ -43,7 +43,7 @@ kept-put processor ops facts op facts' kept one room is = record {
 
 -- the facts' records are those of the operations
 pub kept-records : (processor : ℕ) (ops : List Op) (facts : Facts) → IsKept processor ops facts → records_of_facts facts ≡ records_of ops
-kept-records processor ops facts kept = records_of-state facts ops kept.said
+kept-records processor ops facts kept = records_of-facts facts ops kept.said
 
 length-placed : (r : Record) (xs : List Record) → length (placed r xs) ≤ length xs + 1
 length-placed r [] = omega arith

@@ -1,0 +1,98 @@
+-- Which revocations are known.
+use Rattle.std.specs.Prelude.{◌≡◌, ◌↔◌, ◌<◌, ◌+◌, nat_le, nat_lt, not, ◌||◌, ℕ, Bool, true, false, ◌&&◌, Option, Some, None, IsTrue, refl}
+use Rattle.std.proofs.Common.{sym, ◌∙◌, ap, subst, arith}
+use Rattle.std.proofs.lemmas.Bool.Decides.{nat_tests}
+use Rattle.mapdb_fpage.specs.Place.{page_total}
+use Rattle.std.proofs.lemmas.Nat.{pow_pos}
+use Rattle.std.specs.Map.{lookup}
+use Rattle.std.specs.BTreeMap.{is_at}
+use Rattle.std.proofs.lemmas.Bool.{and_parts, and_from, eq-eqb, true≢false}
+use Rattle.mapdb_facts.specs.declared.operations.Op.TheVariants.{Born, Cut, Closed}
+use Rattle.mapdb_facts.specs.declared.operations.Record.{Record}
+use Rattle.mapdb_facts.specs.declared.names.RecordId.{RecordId}
+use Rattle.mapdb_facts.specs.declared.operations.Revocation.{Revocation}
+use Rattle.mapdb_fpage.specs.declared.right_sets.Right.{Right}
+use Rattle.mapdb_fpage.specs.declared.right_sets.Right.TheVariants.{Read, Write, Execute}
+use Rattle.mapdb_facts.specs.declared.names.Space.{Space}
+use Rattle.mapdb_facts.specs.Exact.{exact_id}
+use Rattle.mapdb_facts.specs.Names.{same_id, same_space}
+use Rattle.mapdb_fpage.specs.Place.{holds}
+use Rattle.mapdb_fpage.specs.RightSets.{includes, is_empty}
+use Rattle.mapdb_facts.specs.State.{State, Atom, Rec, Rev, End, Gives, Has, cuts}
+use Rattle.mapdb_facts.specs.Kept.{Kept, Cuts, Parts, id_cmp, cut_among, cut_by, cut_in, ended_in, record_in}
+use Rattle.mapdb_facts.specs.Facts.{state_of_facts}
+use Rattle.mapdb_facts.specs.Adding.{is_new}
+use Rattle.mapdb_facts.specs.Taking.{Knows, IsAllTaken}
+use Rattle.mapdb_facts.proofs.Newness.{cut_old, new_is_exact}
+
+pub id_itself : (a : RecordId) → same_id a a ≡ true
+id_itself a = and_from _ _ (eq-eqb a.number a.number refl) (eq-eqb a.processor a.processor refl)
+
+module _ (old : Kept) (cut : Revocation) (o : Option Parts) (at : lookup (is_at (id_cmp cut.target)) old.cuts ≡ o) where
+  all_known : IsAllTaken o cut → Knows (state_of_facts old) (Cut cut)
+  all_known all (Rec r) g = absurd g
+  all_known all (End space) g = absurd g
+  all_known all (Rev id page right) g =
+      let both = and_parts (same_id cut.target id && holds cut.part page) (includes cut.rights right) g in
+      let first = and_parts (same_id cut.target id) (holds cut.part page) both.0 in
+      subst (λ x. cut_in old.cuts x page right ≡ true) (exact_id cut.target id first.0) (ap (λ p. cut_by p page right) at ∙ all right page first.1 both.1)
+
+  known_all : Knows (state_of_facts old) (Cut cut) → IsAllTaken o cut
+  known_all knows right page h i = ap (λ p. cut_by p page right) (sym at) ∙ knows (Rev cut.target page right) (and_from (same_id cut.target cut.target && holds cut.part page) (includes cut.rights right) (and_from (same_id cut.target cut.target) (holds cut.part page) (id_itself cut.target) h) i)
+
+  pub cut_known : (answer : Bool) → IsTrue answer ↔ IsAllTaken o cut → IsTrue answer ↔ Knows (state_of_facts old) (Cut cut)
+  cut_known answer h = (λ t. all_known (h.0 t), λ k. h.1 (known_all k))
+
+-- three rights are all
+pub three_taken : (o : Option Parts) (cut : Revocation) (r w x : Bool) → IsTrue r ↔ ((q : ℕ) → holds cut.part q ≡ true → includes cut.rights Read ≡ true → cut_by o q Read ≡ true) → IsTrue w ↔ ((q : ℕ) → holds cut.part q ≡ true → includes cut.rights Write ≡ true → cut_by o q Write ≡ true) → IsTrue x ↔ ((q : ℕ) → holds cut.part q ≡ true → includes cut.rights Execute ≡ true → cut_by o q Execute ≡ true) → IsTrue (r && w && x) ↔ IsAllTaken o cut
+three_taken o cut r w x one two three = (to, λ all. and_from (r && w) x (and_from r w (one.1 (all Read)) (two.1 (all Write))) (three.1 (all Execute)))
+  where
+    to : IsTrue (r && w && x) → IsAllTaken o cut
+    to h Read = one.0 (and_parts r w (and_parts (r && w) x h).0).0
+    to h Write = two.0 (and_parts r w (and_parts (r && w) x h).0).1
+    to h Execute = three.0 (and_parts (r && w) x h).1
+
+first_held : (first n : ℕ) → 0 < n → (nat_le first first && nat_lt first (first + n)) ≡ true
+first_held first n p = grind (arith, nat_tests)
+
+none_by : (a b c : Bool) → not (a || b || c) ≡ true → (a ≡ false) × (b ≡ false) × (c ≡ false)
+none_by false false false h = (refl, refl, refl)
+none_by false false true h = absurd (true≢false (sym h))
+none_by false true c h = absurd (true≢false (sym h))
+none_by true b c h = absurd (true≢false (sym h))
+
+by_none : (a b c : Bool) → (a ≡ true → ⊥) → (b ≡ true → ⊥) → (c ≡ true → ⊥) → not (a || b || c) ≡ true
+by_none false false false p q r = refl
+by_none false false true p q r = absurd (r refl)
+by_none false true c p q r = absurd (q refl)
+by_none true b c p q r = absurd (p refl)
+
+-- where nothing is taken of a record, a revocation without rights is known
+pub none_taken : (cut : Revocation) → IsTrue (is_empty cut.rights) ↔ IsAllTaken None cut
+none_taken cut = (to, λ all. by_none _ _ _ (some all Read) (some all Write) (some all Execute))
+  where
+    some : IsAllTaken None cut → (right : Right) → includes cut.rights right ≡ true → ⊥
+    some all right i = true≢false (sym (all right cut.part.first_page (first_held cut.part.first_page (page_total cut.part) (pow_pos _)) i))
+
+    to : IsTrue (is_empty cut.rights) → IsAllTaken None cut
+    to h Read page held i = absurd (true≢false (sym i ∙ (none_by cut.rights.read cut.rights.write cut.rights.execute h).0))
+    to h Write page held i = absurd (true≢false (sym i ∙ (none_by cut.rights.read cut.rights.write cut.rights.execute h).1))
+    to h Execute page held i = absurd (true≢false (sym i ∙ (none_by cut.rights.read cut.rights.write cut.rights.execute h).2))
+
+-- a revocation is new exactly where it is not known
+old_known : (S : State) (cut : Revocation) → is_new S (Cut cut) ≡ false → Knows S (Cut cut)
+old_known S cut old (Rec r) g = absurd g
+old_known S cut old (End space) g = absurd g
+old_known S cut old (Rev id page right) g =
+    let both = and_parts (same_id cut.target id && holds cut.part page) (includes cut.rights right) g in
+    let first = and_parts (same_id cut.target id) (holds cut.part page) both.0 in
+    subst (λ (x : RecordId). S.is_cut x page right ≡ true) (exact_id cut.target id first.0) (cut_old S cut old page right first.1 both.1)
+
+pub cut_is_new : (S : State) (cut : Revocation) (answer : Bool) → IsTrue answer ↔ Knows S (Cut cut) → not answer ≡ is_new S (Cut cut)
+cut_is_new S cut answer known = by answer (is_new S (Cut cut)) refl refl
+  where
+    by : (a n : Bool) → answer ≡ a → is_new S (Cut cut) ≡ n → not a ≡ n
+    by true true e f = (let atom = (new_is_exact S (Cut cut)).0 f in absurd (atom.2 (known.0 e atom.0 atom.1)))
+    by true false e f = refl
+    by false true e f = refl
+    by false false e f = absurd (true≢false (sym (known.1 (old_known S cut f)) ∙ e))
