@@ -173,7 +173,7 @@ impl Facts {
     }
 
     /// The name under which a different record is held than the operation's.
-    fn clash_with(&self, op: &Op) -> Option<RecordId>
+    pub fn clash_with(&self, op: &Op) -> Option<RecordId>
         ensures { result ≡ clash_of (state_of_facts self.now) op.now }
     {
         let Op::Born(mapping) = op else {

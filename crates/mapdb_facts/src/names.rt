@@ -10,13 +10,13 @@ pub const NUMBER_LIMIT: u64 = 1 << 40;
 pub const PROCESSOR_LIMIT: u8 = 64;
 
 /// An address space.
-#[derive(Clone, Copy, Debug, Default, PartialEq, Eq, PartialOrd, Ord)]
+#[derive(Clone, Copy, Debug, Default, PartialEq, Eq, PartialOrd, Ord, Hash)]
 pub struct Space {
     pub number: u16,
 }
 
 /// The name of a record: a number, and the processor that issued it. Names are ordered by number, then processor.
-#[derive(Clone, Copy, Debug, Default, PartialEq, Eq, PartialOrd, Ord)]
+#[derive(Clone, Copy, Debug, Default, PartialEq, Eq, PartialOrd, Ord, Hash)]
 pub struct RecordId {
     pub number: u64,
     pub processor: u8,

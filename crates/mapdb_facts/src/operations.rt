@@ -4,7 +4,7 @@ use crate::names::{RecordId, Space};
 use mapdb_fpage::{Fpage, Rights};
 
 /// One mapping: a place of a space, and where its pages come from.
-#[derive(Clone, Copy, Debug, PartialEq, Eq)]
+#[derive(Clone, Copy, Debug, PartialEq, Eq, Hash)]
 pub struct Record {
     /// The record's own name.
     pub id: RecordId,
@@ -21,7 +21,7 @@ pub struct Record {
 }
 
 /// Rights that are taken from a part of a record, for good. Repeats and overlaps add up.
-#[derive(Clone, Copy, Debug, PartialEq, Eq)]
+#[derive(Clone, Copy, Debug, PartialEq, Eq, Hash)]
 pub struct Revocation {
     /// The record that loses the rights.
     pub target: RecordId,
@@ -32,7 +32,7 @@ pub struct Revocation {
 }
 
 /// What copies tell each other: an operation.
-#[derive(Clone, Copy, Debug, PartialEq, Eq)]
+#[derive(Clone, Copy, Debug, PartialEq, Eq, Hash)]
 pub enum Op {
     /// A record is there.
     Born(Record),

@@ -8,7 +8,7 @@ use std::marker::Model;
 /// A place: the `2^(order - 12)` pages from `first_page` on, aligned to their own number, within the space.
 ///
 /// Places are ordered by their first page, then by their order.
-#[derive(Clone, Copy, Debug, PartialEq, Eq, PartialOrd, Ord)]
+#[derive(Clone, Copy, Debug, PartialEq, Eq, PartialOrd, Ord, Hash)]
 pub struct Fpage {
     first_page: u32,
     order: u8,
@@ -58,9 +58,9 @@ fn pages_of_order(order: u8) -> u32
 }
 
 impl Fpage {
-    ghost use Rattle.std.specs.Prelude.{◌≡◌, ◌≤◌, ◌<◌, ◌&&◌, ◌+◌, ℕ, Some, None, IfSome, if◌then◌else◌};
+    ghost use Rattle.std.specs.Prelude.{◌≡◌, ◌≤◌, ◌<◌, ◌&&◌, ◌+◌, ◌%◌, ℕ, Some, None, IfSome, if◌then◌else◌};
     ghost use Rattle.mapdb_fpage.specs.Addresses.{place_at};
-    ghost use Rattle.mapdb_fpage.specs.Place.{IsPlace, IsWithin, held_by, holds, meet, moved, page_total, part_of, whole};
+    ghost use Rattle.mapdb_fpage.specs.Place.{IsPlace, IsWithin, from_page, held_by, holds, meet, moved, page_total, part_of, whole};
 
     /// The place of `2^s` bytes from the byte address `addr` on, or the first fault in the order of [`FpageFault`].
     pub fn new(addr: u64, s: u8) -> Result<Fpage, FpageFault>
@@ -175,6 +175,18 @@ impl Fpage {
         ensures { result ≡ moved source.now target.now self.now }
     {
         let first_page = target.first_page + (self.first_page - source.first_page);
+        Fpage {
+            first_page,
+            order: self.order,
+        }
+    }
+
+    /// The place of the same size from another page on, which is aligned to it.
+    pub fn moved_to(&self, first_page: u32) -> Fpage
+        requires aligned { first_page % page_total self.now ≡ 0 }
+        requires in_space { first_page < PAGE_LIMIT }
+        ensures { result ≡ from_page self.now first_page }
+    {
         Fpage {
             first_page,
             order: self.order,

@@ -12,7 +12,7 @@ pub enum Right {
 }
 
 /// A set of rights.
-#[derive(Clone, Copy, Debug, PartialEq, Eq)]
+#[derive(Clone, Copy, Debug, PartialEq, Eq, Hash)]
 pub struct Rights {
     pub read: bool,
     pub write: bool,

@@ -10,7 +10,7 @@ mod page_rights;
 mod pieces;
 mod replicas;
 
-pub use faults::{IssueFault, MOST_OPERATIONS};
+pub use faults::{GiveFault, IssueFault, MOST_OPERATIONS, TakeFault};
 pub use replicas::Replica;
 
 #[cfg(test)]
