@@ -4,3 +4,5 @@ pub mod Issuing
 pub mod Limits
 pub mod PairLists
 pub mod PairLaws
+pub mod SameOps
+pub mod Agreeing

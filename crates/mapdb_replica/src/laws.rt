@@ -1,9 +1,17 @@
 //! Laws of a copy's answers, each the contract of a function that does nothing.
 
+ghost use Rattle.mapdb_replica.specs.Agreement.{AgreementIsOfAtoms};
 ghost use Rattle.mapdb_replica.specs.Pairs.{PageRightsAreListed};
 
 /// The listed rights of a page are those of the page: frames rise, each with some right, and a right is listed under a
 /// frame exactly where some record of the space has it there and reaches the frame.
 pub fn page_rights_are_listed()
     ensures { PageRightsAreListed }
+{}
+
+/// Which pages are visible follows from the operations that were taken, never from the order in which they arrived:
+/// operations may come in any order, again, or in other parts. The same atoms give equal rights and are served from
+/// equal frames at every page of every space.
+pub fn order_is_free()
+    ensures { AgreementIsOfAtoms }
 {}

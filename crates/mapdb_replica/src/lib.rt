@@ -4,8 +4,11 @@
 //! copy's own processor; queries answer from what the copy holds.
 #![tactic(auto)]
 
+mod comparing;
 mod faults;
+mod giving;
 pub mod laws;
+mod mapping;
 mod page_rights;
 mod pieces;
 mod replicas;

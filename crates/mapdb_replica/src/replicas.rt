@@ -1,22 +1,30 @@
-//! One copy.
+//! One copy: what it keeps, and how that is looked at.
 
-use crate::faults::{IssueFault, MOST_OPERATIONS};
+ghost use Rattle.std.specs.Prelude.{◌≡◌, ◌++◌, ◌∷◌, [], OnOk, OnErr};
+ghost use Rattle.mapdb_facts.specs.Facts.{state_of_facts};
+ghost use Rattle.mapdb_facts.specs.State.{join, said};
+ghost use Rattle.mapdb_replica.specs.Keeping.{MayAdd};
+
+use crate::faults::{GiveFault, MOST_OPERATIONS};
+use crate::giving::between;
 use crate::page_rights::page_rights;
-use crate::pieces::{Piece, piece_count, pieces, record_of};
-use mapdb_facts::{Facts, NUMBER_LIMIT, Op, PROCESSOR_LIMIT, Record, RecordId, Space};
-use mapdb_fpage::{Fpage, MapItem, Rights, Transfer, transfer};
-use smallvec::SmallVec;
+use indexmap::IndexSet;
+use mapdb_facts::{Facts, Op, PROCESSOR_LIMIT, Space};
+use mapdb_fpage::Rights;
 use std::alloc::{AllocError, Global};
 use std::marker::Model;
 
 /// One processor's copy of the mapping database.
 #[derive(Drop)]
 pub struct Replica {
-    alloc: Global,
-    processor: u8,
-    ops: Vec<Op>,
-    own: Vec<Op>,
-    facts: Facts,
+    pub(crate) alloc: Global,
+    pub(crate) processor: u8,
+    /// The operations that are held, in order of arrival.
+    pub(crate) ops: IndexSet<Op>,
+    /// Those that this copy issued, in order.
+    pub(crate) own: Vec<Op>,
+    /// What the operations say.
+    pub(crate) facts: Facts,
 }
 
 impl Model for Replica {
@@ -25,23 +33,37 @@ impl Model for Replica {
 
     ghost Value = { Log };
 
-    ghost view = { λ r. record { processor = r.processor; ops = r.ops.items; own = r.own.items } };
+    ghost view = { λ r. record { processor = r.processor; ops = r.ops.keys; own = r.own.items } };
 
-    ghost invariant = { λ r. IsKept r.processor r.ops.items r.facts };
+    ghost invariant = { λ r. IsKept r.processor r.ops.keys r.own.items r.facts };
+}
+
+/// Adds an operation that is new to the list and to what the list says.
+fn add_op(ops: &mut IndexSet<Op>, facts: &mut Facts, op: &Op) -> Result<(), AllocError>
+    requires { MayAdd ops.old.keys facts.old op.now }
+    ensures listed { OnOk result (ops.new.keys ≡ ops.old.keys ++ op.now ∷ []) }
+    ensures said { OnOk result (state_of_facts facts.new ≡ join (state_of_facts facts.old) (said op.now)) }
+    ensures kept { OnErr result (ops.new.keys ≡ ops.old.keys) }
+    ensures kept_facts { OnErr result (facts.new ≡ facts.old) }
+{
+    ops.reserve(1)?;
+    if facts.add(*op).is_err() {
+        return Err(AllocError);
+    }
+    // There is room for it.
+    ops.insert(*op).unwrap();
+    Ok(())
 }
 
 impl Replica {
-    ghost use Rattle.std.specs.Prelude.{◌≡◌, ◌<◌, ◌≤◌, ◌+◌, [], ◌∷◌, true, false, Ok, Err, IfOk, IfErr, OnOk, OnErr, length, take};
-    ghost use Rattle.mapdb_fpage.specs.Place.{IsWithin};
-    ghost use Rattle.mapdb_fpage.specs.declared.items.Transfer.{Transfer};
+    ghost use Rattle.std.specs.Prelude.{◌≡◌, ◌<◌, [], ◌∷◌, true, Ok, IfOk, IfErr, OnOk, OnErr, length, slice_get};
     ghost use Rattle.mapdb_facts.specs.Adding.{added};
-    ghost use Rattle.mapdb_facts.specs.Names.{is_first_space};
-    ghost use Rattle.mapdb_facts.specs.Records.{greatest_number, records_of};
+    ghost use Rattle.mapdb_facts.specs.Facts.{state_of_facts};
     ghost use Rattle.mapdb_facts.specs.State.{state_of};
-    ghost use Rattle.mapdb_replica.specs.Fitting.{AllFitting, IsFree, count_refusal, held_pieces, piece_ops, piece_refusal};
-    ghost use Rattle.mapdb_replica.specs.Issue.{numbered, pieces, rising_names};
+    ghost use Rattle.mapdb_replica.specs.Giving.{IsNotGiven, given};
     ghost use Rattle.mapdb_replica.specs.Pairs.{page_rights};
-    ghost use Rattle.mapdb_replica.specs.Replica.{Issues, Log, Names, empty, issued_unless, limited, map_outcome, names_of, space_refusal, with_issued};
+    ghost use Rattle.mapdb_replica.specs.Replica.{empty, with_issued};
+    ghost use Rattle.mapdb_replica.specs.Taking.{with_taken};
 
     /// A copy that holds nothing, of this processor. It takes no memory.
     pub fn new(alloc: Global, processor: u8) -> Replica
@@ -51,212 +73,87 @@ impl Replica {
         Replica {
             alloc,
             processor,
-            ops: Vec::new(alloc),
+            ops: IndexSet::new(alloc),
             own: Vec::new(alloc),
             facts: Facts::new(alloc),
         }
     }
 
-    /// Why a Map between these spaces is refused before anything else is looked at.
-    fn space_refusal(&self, sender: Space, receiver: Space) -> Option<IssueFault>
-        ensures { result ≡ space_refusal (state_of self.now.ops) sender receiver }
+    /// The processor whose copy this is.
+    pub fn processor(&self) -> u8
+        ensures processor { result ≡ self.now.processor }
+        ensures limit { result < PROCESSOR_LIMIT }
     {
-        if self.facts.ended(sender) {
-            Some(IssueFault::SpaceEnded(sender))
-        } else if self.facts.ended(receiver) {
-            Some(IssueFault::SpaceEnded(receiver))
-        } else if receiver.is_first() {
-            Some(IssueFault::RootSpace)
-        } else {
-            None
-        }
+        self.processor
     }
 
-    /// The greatest number of a record, 0 where there is none.
-    fn greatest(&self) -> u64
-        ensures number { result ≡ greatest_number (records_of self.now.ops) }
-        ensures free { IsFree (state_of self.now.ops) (result + 1) }
-        ensures limit { result < NUMBER_LIMIT }
+    /// What the operations that are held say together.
+    pub fn facts(&self) -> &Facts
+        ensures { state_of_facts result.now ≡ state_of self.now.ops }
     {
-        self.facts.greatest()
+        &self.facts
     }
 
-    /// Why so many new records are refused.
-    fn count_refusal(&self, count: usize) -> Option<IssueFault>
-        requires { count ≤ MOST_OPERATIONS + 1 }
-        ensures { result ≡ count_refusal (greatest_number (records_of self.now.ops)) (length self.now.ops) count }
+    /// Holds an operation that may be added and is new.
+    pub(crate) fn hold(&mut self, op: &Op) -> Result<(), AllocError>
+        requires new { added (state_of self.old.ops) op.now ≡ Ok true }
+        requires room { length self.old.ops < MOST_OPERATIONS }
+        ensures held { OnOk result (self.new ≡ with_taken self.old (op.now ∷ [])) }
+        ensures kept { OnErr result (self.new ≡ self.old) }
     {
-        let is_spent = count != 0 && self.greatest() + count as u64 >= NUMBER_LIMIT;
-        if is_spent {
-            return Some(IssueFault::NumbersSpent);
-        }
-        let is_full = self.ops.len() + count > MOST_OPERATIONS;
-        if is_full {
-            Some(IssueFault::Full)
-        } else {
-            None
-        }
+        add_op(&mut self.ops, &mut self.facts, op)
     }
 
     /// Issues an operation that may be added and is new.
-    fn issue(&mut self, op: &Op) -> Result<(), AllocError>
+    pub(crate) fn issue(&mut self, op: &Op) -> Result<(), AllocError>
         requires new { added (state_of self.old.ops) op.now ≡ Ok true }
         requires room { length self.old.ops < MOST_OPERATIONS }
         ensures issued { OnOk result (self.new ≡ with_issued self.old (op.now ∷ [])) }
         ensures kept { OnErr result (self.new ≡ self.old) }
     {
-        self.ops.reserve(1)?;
         self.own.reserve(1)?;
-        if self.facts.add(*op).is_err() {
-            return Err(AllocError);
-        }
-        self.ops.push_reserved(*op);
+        add_op(&mut self.ops, &mut self.facts, op)?;
         self.own.push_reserved(*op);
         Ok(())
     }
 
-    /// Issues a record for each piece, with numbers behind the greatest. A want of memory tells how many stand.
-    fn issue_pieces(
-        &mut self,
-        receiver: Space,
-        carried: &Transfer,
-        pieces: &[Piece],
-    ) -> Result<(), u32>
-        requires fitting { AllFitting carried.now.source (greatest_number (records_of self.old.ops)) pieces.now }
-        requires size { carried.now.source.order ≡ carried.now.target.order }
-        requires receiver { is_first_space receiver ≡ false }
-        requires numbers { greatest_number (records_of self.old.ops) + length pieces.now < NUMBER_LIMIT }
-        requires room { length self.old.ops + length pieces.now ≤ MOST_OPERATIONS }
-        ensures ok { OnOk result (self.new ≡ with_issued self.old
-            (numbered (greatest_number (records_of self.old.ops) + 1) self.old.processor receiver carried.now pieces.now)) }
-        ensures some { IfErr result (λ issued. issued < length pieces.now) }
-        ensures err { IfErr result (λ issued. self.new ≡ with_issued self.old (take issued
-            (numbered (greatest_number (records_of self.old.ops) + 1) self.old.processor receiver carried.now pieces.now))) }
+    /// How many operations are held.
+    pub fn log_len(&self) -> u32
+        ensures { result ≡ length self.now.ops }
     {
-        let processor = self.processor;
-        let mut number = self.greatest() + 1;
-        let mut issued = 0;
-        for piece in pieces {
-            let id = RecordId { number, processor };
-            let op = Op::Born(record_of(id, receiver, carried, piece));
-            if let Err(_) = self.issue(&op) {
-                return Err(issued);
-            }
-            number += 1;
-            issued += 1;
-        }
-        Ok(())
+        self.ops.len() as u32
     }
 
-    /// How many pieces of the transfer the sender has.
-    fn piece_count(&self, sender: Space, carried: &Transfer) -> usize
-        ensures count { result ≡ length (held_pieces self.now sender carried.now) }
-        ensures few { result ≤ MOST_OPERATIONS + 1 }
+    /// How many operations this copy has issued.
+    pub fn own_len(&self) -> u32
+        ensures { result ≡ length self.now.own }
     {
-        piece_count(&self.facts, sender, &carried.source, carried.rights)
+        self.own.len() as u32
     }
 
-    /// The pieces of the transfer that the sender has.
-    fn pieces(&self, sender: Space, carried: &Transfer) -> Result<Vec<Piece>, AllocError>
-        ensures found { IfOk result (λ found. found.items ≡ held_pieces self.now sender carried.now) }
-        ensures fitting { IfOk result (λ found. AllFitting carried.now.source (greatest_number (records_of self.now.ops)) found.items) }
+    /// The operation at a place of those that this copy has issued, counted from 0.
+    pub fn own_at(&self, place: u32) -> Option<Op>
+        ensures { result ≡ slice_get self.now.own place }
     {
-        pieces(
-            self.alloc,
-            &self.facts,
-            sender,
-            &carried.source,
-            carried.rights,
-        )
+        self.own.as_slice().get(place as usize).copied()
     }
 
-    /// The names of so many records, with numbers behind the greatest.
-    fn names(&self, count: usize) -> Result<SmallVec<RecordId, 4>, AllocError>
-        requires { count ≤ MOST_OPERATIONS + 1 }
-        ensures { IfOk result (λ names. names.items ≡ rising_names (greatest_number (records_of self.now.ops) + 1) self.now.processor count) }
+    /// The operations that are held, in order of arrival, from the place `first` on and up to before the place `end`.
+    /// Marks that fall, or that lie behind the end of the list, are refused.
+    pub fn give(&self, first: u32, end: u32) -> Result<Vec<Op>, GiveFault>
+        ensures given { IfOk result (λ given_ops. given self.now.ops first end ≡ Ok given_ops.items) }
+        ensures err { IfErr result (IsNotGiven (given self.now.ops first end)) }
     {
-        let processor = self.processor;
-        let mut names = SmallVec::new(self.alloc);
-        let mut number = self.greatest() + 1;
-        let mut left = count;
-        'names: while left > 0 {
-            names.push(RecordId { number, processor })?;
-            number += 1;
-            left -= 1;
-        }
-        Ok(names)
+        between(self.alloc, self.ops.as_slice(), first, end)
     }
 
-    /// Issues a record for each piece, of which there are some and not too many.
-    fn map_counted(
-        &mut self,
-        sender: Space,
-        receiver: Space,
-        carried: &Transfer,
-        count: usize,
-    ) -> Result<SmallVec<RecordId, 4>, IssueFault>
-        requires size { carried.now.source.order ≡ carried.now.target.order }
-        requires receiver { is_first_space receiver ≡ false }
-        requires count { count ≡ length (held_pieces self.old sender carried.now) }
-        requires some { 0 < count }
-        requires numbers { greatest_number (records_of self.old.ops) + count < NUMBER_LIMIT }
-        requires room { length self.old.ops + count ≤ MOST_OPERATIONS }
-        ensures issues { Issues (Ok (piece_ops self.old sender carried.now receiver)) result self.old self.new }
-        ensures names { IfOk result (λ names. names.items ≡ names_of (piece_ops self.old sender carried.now receiver)) }
+    /// The operations that this copy has issued, in order, from the place `first` on and up to before the place `end`.
+    /// Marks that fall, or that lie behind the end of the list, are refused.
+    pub fn give_own(&self, first: u32, end: u32) -> Result<Vec<Op>, GiveFault>
+        ensures given { IfOk result (λ given_ops. given self.now.own first end ≡ Ok given_ops.items) }
+        ensures err { IfErr result (IsNotGiven (given self.now.own first end)) }
     {
-        let Ok(found) = self.pieces(sender, carried) else {
-            return Err(IssueFault::Memory { issued: 0 });
-        };
-        let Ok(names) = self.names(count) else {
-            return Err(IssueFault::Memory { issued: 0 });
-        };
-        match self.issue_pieces(receiver, carried, found.as_slice()) {
-            Ok(()) => Ok(names),
-            Err(issued) => Err(IssueFault::Memory { issued }),
-        }
-    }
-
-    /// Issues a record for each piece that the sender has of the transfer, unless a limit is met.
-    fn map_carried(
-        &mut self,
-        sender: Space,
-        receiver: Space,
-        carried: &Transfer,
-    ) -> Result<SmallVec<RecordId, 4>, IssueFault>
-        requires size { carried.now.source.order ≡ carried.now.target.order }
-        requires receiver { is_first_space receiver ≡ false }
-        ensures issues { Issues (issued_unless (piece_refusal self.old sender carried.now) (piece_ops self.old sender carried.now receiver)) result self.old self.new }
-        ensures names { IfOk result (λ names. names.items ≡ names_of (piece_ops self.old sender carried.now receiver)) }
-    {
-        let count = self.piece_count(sender, carried);
-        if let Some(fault) = self.count_refusal(count) {
-            return Err(fault);
-        }
-        if count == 0 {
-            return Ok(SmallVec::new(self.alloc));
-        }
-        self.map_counted(sender, receiver, carried, count)
-    }
-
-    /// Maps what the item carries into the receive window: issues one record for each record of the sender's space that
-    /// has one of the named rights on a page of the source, in ascending order of name, and answers their names.
-    pub fn map(
-        &mut self,
-        sender: Space,
-        item: &MapItem,
-        receiver: Space,
-        window: Option<Fpage>,
-    ) -> Result<SmallVec<RecordId, 4>, IssueFault>
-        ensures issues { Issues (map_outcome self.old sender item.now receiver window) result self.old self.new }
-        ensures names { IfOk result (λ names. Names (map_outcome self.old sender item.now receiver window) names.items) }
-    {
-        if let Some(fault) = self.space_refusal(sender, receiver) {
-            return Err(fault);
-        }
-        match transfer(item, window) {
-            Some(carried) => self.map_carried(sender, receiver, &carried),
-            None => Ok(SmallVec::new(self.alloc)),
-        }
+        between(self.alloc, self.own.as_slice(), first, end)
     }
 
     /// The rights of a page of a space, ascending by frame: each frame that some record of the space reaches there with
