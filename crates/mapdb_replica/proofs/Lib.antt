@@ -6,3 +6,5 @@ pub mod PairLists
 pub mod PairLaws
 pub mod SameOps
 pub mod Agreeing
+pub mod ServedPages
+pub mod ServedLaws

@@ -93,7 +93,7 @@ above-with frame pair (other ∷ rest) low above = step (nat_lt pair.0 other.0) 
     step false true later = above
     step false false later = (above.0, later)
 
-above-lower : (low frame : ℕ) (pairs : List Pair) → low < frame → AllAbove frame pairs → AllAbove low pairs
+pub above-lower : (low frame : ℕ) (pairs : List Pair) → low < frame → AllAbove frame pairs → AllAbove low pairs
 above-lower low frame [] less above = tt
 above-lower low frame (pair ∷ rest) less above = (omega (arith, above.0), above-lower low frame rest less above.1)
 
@@ -123,7 +123,7 @@ abbrev pub Gives : State → ℕ → RecordId → ℕ → Right → Type 0
 Gives S page id frame right = (frame_at S id page ≡ Some frame) × (has_right S id page right ≡ true)
 
 module _ (S : State) (page : ℕ) where
-  right_in : (id : RecordId) (right : Right) → includes (rights_at S id page) right ≡ has_right S id page right
+  pub right_in : (id : RecordId) (right : Right) → includes (rights_at S id page) right ≡ has_right S id page right
   right_in id Read = refl
   right_in id Write = refl
   right_in id Execute = refl
@@ -157,7 +157,7 @@ module _ (S : State) (page : ℕ) where
       by false some (inl gives) = lists_from (f, rights_at S id page) known frame right (inl (same_frame f frame (sym is ∙ gives.0), right_in id right ∙ gives.1))
       by false some (inr k) = lists_from (f, rights_at S id page) known frame right (inr k)
 
-  some_rising : (id : RecordId) (known : List Pair) (o : Option ℕ) → IsRising known → IsRising (with_some (pair_with o (rights_at S id page)) known)
+  pub some_rising : (id : RecordId) (known : List Pair) (o : Option ℕ) → IsRising known → IsRising (with_some (pair_with o (rights_at S id page)) known)
   some_rising id known None rising = rising
   some_rising id known (Some f) rising = by (is_empty (rights_at S id page)) refl
     where
@@ -204,7 +204,7 @@ formed_atom (Cut cut ∷ ops) r all (inl e) = absurd e
 formed_atom (Closed space ∷ ops) r all (inl e) = absurd e
 formed_atom (op ∷ ops) r all (inr later) = formed_atom ops r (and_parts (is_formed op) (all_formed ops) all).1 later
 
-not_root : (ops : List Op) (r : Record) → all_formed ops ≡ true → Holds (state_of ops) r → is_root r.id ≡ false
+pub not_root : (ops : List Op) (r : Record) → all_formed ops ≡ true → Holds (state_of ops) r → is_root r.id ≡ false
 not_root ops r all held =
     let formed = formed_record r (formed_atom ops r all (record_held ops r.id r held).0) in
     let number = (and_parts (nat_lt 0 r.id.number) (nat_lt r.id.number number_limit) formed.has_number).0 in
@@ -213,7 +213,7 @@ not_root ops r all held =
     other : (id : RecordId) → nat_lt 0 id.number ≡ true → is_root id ≡ false
     other id some = grind (arith, nat_tests)
 
-holder_into : (space : Space) (records : List Record) (h : Holder) → IsAmong h (record_holders space records) → (r : Record) × IsAmong r records × (same_space r.space space ≡ true) × (r.id ≡ h.id)
+pub holder_into : (space : Space) (records : List Record) (h : Holder) → IsAmong h (record_holders space records) → (r : Record) × IsAmong r records × (same_space r.space space ≡ true) × (r.id ≡ h.id)
 holder_into space [] h k = absurd k
 holder_into space (s ∷ rest) h k = step (same_space s.space space) refl (holder_into space rest h) k
   where
@@ -255,7 +255,7 @@ first_among : (space : Space) (b : Bool) → b ≡ true → IsAmong {X = Holder}
 first_among space true yet = inl refl
 first_among space false yet = absurd (false≢true yet)
 
-into_to : (ops : List Op) (space : Space) (h : Holder) → all_formed ops ≡ true → IsAmong h (holders (records_of ops) space) → is_into (state_of ops) space h.id ≡ true
+pub into_to : (ops : List Op) (space : Space) (h : Holder) → all_formed ops ≡ true → IsAmong h (holders (records_of ops) space) → is_into (state_of ops) space h.id ≡ true
 into_to ops space h all k =
     elim (among_parts (first_holders space) (record_holders space (records_of ops)) h k) [
       | inl top ↦ first_into (state_of ops) space h (is_first_space space) refl top
@@ -271,7 +271,7 @@ into_record : (ops : List Op) (space : Space) (id : RecordId) (o : Option Record
 into_record ops space id None held into = absurd (false≢true into)
 into_record ops space id (Some r) held into = let found = found_listed ops id r held in (holder_of r, holder_among space (records_of ops) r into found.0, found.1)
 
-into_from : (ops : List Op) (space : Space) (id : RecordId) → is_into (state_of ops) space id ≡ true → (h : Holder) × IsAmong h (holders (records_of ops) space) × (h.id ≡ id)
+pub into_from : (ops : List Op) (space : Space) (id : RecordId) → is_into (state_of ops) space id ≡ true → (h : Holder) × IsAmong h (holders (records_of ops) space) × (h.id ≡ id)
 into_from ops space id into =
     elim (cases_Bool (is_root id)) [
       | inl top ↦

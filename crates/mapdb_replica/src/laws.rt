@@ -2,6 +2,7 @@
 
 ghost use Rattle.mapdb_replica.specs.Agreement.{AgreementIsOfAtoms};
 ghost use Rattle.mapdb_replica.specs.Pairs.{PageRightsAreListed};
+ghost use Rattle.mapdb_replica.specs.Served.{PageIsServed};
 
 /// The listed rights of a page are those of the page: frames rise, each with some right, and a right is listed under a
 /// frame exactly where some record of the space has it there and reaches the frame.
@@ -14,4 +15,10 @@ pub fn page_rights_are_listed()
 /// equal frames at every page of every space.
 pub fn order_is_free()
     ensures { AgreementIsOfAtoms }
+{}
+
+/// A page is served from the frame of the least record of the space that has any right there, with each right that some
+/// record of the space has there and reaches this frame; from none exactly where no record of the space has any.
+pub fn page_is_served()
+    ensures { PageIsServed }
 {}

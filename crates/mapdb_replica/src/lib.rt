@@ -10,8 +10,10 @@ mod giving;
 pub mod laws;
 mod mapping;
 mod page_rights;
+mod page_served;
 mod pieces;
 mod replicas;
+mod serving;
 
 pub use faults::{GiveFault, IssueFault, MOST_OPERATIONS, TakeFault};
 pub use replicas::Replica;

@@ -39,7 +39,7 @@ fn add_pair(pairs: &mut Vec<(u32, Rights)>, frame: u32, rights: Rights) -> Resul
 }
 
 /// What a record has at the page: its frame with its rights, where it has any.
-fn pair_at(facts: &Facts, id: RecordId, page: u32) -> Option<(u32, Rights)>
+pub(crate) fn pair_at(facts: &Facts, id: RecordId, page: u32) -> Option<(u32, Rights)>
     ensures { result ≡ pair_at (state_of_facts facts.now) page id }
 {
     let frame = frame_of(facts, id, page)?;

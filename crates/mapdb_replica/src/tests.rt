@@ -44,6 +44,27 @@ fn expect_rights(
     Ok(())
 }
 
+/// Maps a page of the first space to 20000 of space 1, once for each address with its rights.
+fn map_here(rt: &impl Abort, copy: &mut Replica, sent: &[(u64, u8)]) -> Result<(), Fail> {
+    let here = window(0x20000, 12)?;
+    for (addr, bits) in sent {
+        let names = copy.map(
+            Space { number: 0 },
+            &item(*addr, 12, *bits)?,
+            Space { number: 1 },
+            here,
+        )?;
+        assert_eq!(rt; names.len(), 1);
+    }
+    Ok(())
+}
+
+/// What a page of space 1 is served from, with rights as bits.
+fn served_here(copy: &Replica, page: u32) -> Option<(u32, u8)> {
+    let (frame, rights) = copy.served(Space { number: 1 }, page)?;
+    Some((frame, rights.bits()))
+}
+
 #[test]
 fn first_path(rt: HostRuntime) -> Result<(), Fail> {
     let mut copy = Replica::new(rt.alloc(), 0);
@@ -92,17 +113,20 @@ fn two_pieces(rt: HostRuntime) -> Result<(), Fail> {
 #[test]
 fn occupied_destination(rt: HostRuntime) -> Result<(), Fail> {
     let mut copy = Replica::new(rt.alloc(), 0);
-    let here = window(0x20000, 12)?;
-    for (addr, bits) in [(0x30000, 7), (0x10000, 4), (0x10000, 6)] {
-        let names = copy.map(
-            Space { number: 0 },
-            &item(addr, 12, bits)?,
-            Space { number: 1 },
-            here,
-        )?;
-        assert_eq!(rt; names.len(), 1);
-    }
-    expect_rights(&rt, &copy, 1, 0x20, &[(0x10, 6), (0x30, 7)])
+    map_here(&rt, &mut copy, &[(0x30000, 7), (0x10000, 4), (0x10000, 6)])?;
+    expect_rights(&rt, &copy, 1, 0x20, &[(0x10, 6), (0x30, 7)])?;
+    assert_eq!(rt; served_here(&copy, 0x20), Some((0x30, 7)));
+    Ok(())
+}
+
+#[test]
+fn served_by_the_least_record(rt: HostRuntime) -> Result<(), Fail> {
+    let mut copy = Replica::new(rt.alloc(), 0);
+    map_here(&rt, &mut copy, &[(0x10000, 4), (0x10000, 6), (0x30000, 7)])?;
+    expect_rights(&rt, &copy, 1, 0x20, &[(0x10, 6), (0x30, 7)])?;
+    assert_eq!(rt; served_here(&copy, 0x20), Some((0x10, 6)));
+    assert_eq!(rt; served_here(&copy, 0x21), None);
+    Ok(())
 }
 
 #[test]
