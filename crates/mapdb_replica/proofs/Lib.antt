@@ -8,3 +8,6 @@ pub mod SameOps
 pub mod Agreeing
 pub mod ServedPages
 pub mod ServedLaws
+pub mod LeastNames
+pub mod BatchClashes
+pub mod SeenClashes

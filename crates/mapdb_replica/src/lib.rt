@@ -4,6 +4,7 @@
 //! copy's own processor; queries answer from what the copy holds.
 #![tactic(auto)]
 
+mod batches;
 mod comparing;
 mod faults;
 mod giving;
