@@ -11,3 +11,5 @@ pub mod ServedLaws
 pub mod LeastNames
 pub mod BatchClashes
 pub mod SeenClashes
+pub mod NewsOfBatches
+pub mod TurnsOfBatches

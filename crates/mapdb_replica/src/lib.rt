@@ -15,6 +15,7 @@ mod page_served;
 mod pieces;
 mod replicas;
 mod serving;
+mod taking;
 
 pub use faults::{GiveFault, IssueFault, MOST_OPERATIONS, TakeFault};
 pub use replicas::Replica;

@@ -6,6 +6,8 @@ use mapdb_fpage::{Fpage, MapItem, Rights};
 use std::process::Abort;
 use std::test::Fail;
 
+mod taking;
+
 /// The name of a record of processor 0.
 fn id(number: u64) -> RecordId {
     RecordId {
