@@ -20,6 +20,7 @@ Lines of a script:
   map P S SEND BASE R FPAGE  at processor P, space S maps the fpage SEND into the receive window
                              FPAGE of space R; BASE is the send base
   rights P S ADDR            asks for the frames and the rights of space S at address ADDR
+  served P S ADDR            asks for the frame that the page at ADDR of space S is served from
   # ...                      a comment
 
 Words of a line:

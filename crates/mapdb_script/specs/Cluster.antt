@@ -5,10 +5,11 @@ use Rattle.mapdb_fpage.specs.Bounds.{page_bytes}
 use Rattle.mapdb_facts.specs.declared.operations.Op.{Op}
 use Rattle.mapdb_replica.specs.Pairs.{page_rights}
 use Rattle.mapdb_replica.specs.Replica.{Log, empty, with_issued, map_outcome, names_of}
+use Rattle.mapdb_replica.specs.Served.{served}
 use Rattle.mapdb_replica.specs.declared.faults.IssueFault.{IssueFault}
 use Rattle.mapdb_replica.specs.declared.faults.IssueFault.TheVariants as issue
 use Rattle.mapdb_script.specs.Limits.{most_processors}
-use Rattle.mapdb_script.specs.Reply.{records_text, rights_text, refusal_text}
+use Rattle.mapdb_script.specs.Reply.{records_text, rights_text, served_text, refusal_text}
 use Rattle.mapdb_script.specs.declared.fault.LineFault.{LineFault}
 use Rattle.mapdb_script.specs.declared.fault.LineFault.TheVariants as fault
 use Rattle.mapdb_script.specs.declared.lines.Line.{Line}
@@ -91,6 +92,8 @@ done_by cluster (line.Map at sender item receiver window) =
     at_processor cluster at (λ copy. issue_done cluster at copy names_text (map_outcome copy sender item receiver window))
 done_by cluster (line.Rights at space address) =
     at_processor cluster at (λ copy. answered cluster (rights_text (page_rights copy.ops space (address / page_bytes))))
+done_by cluster (line.Served at space address) =
+    at_processor cluster at (λ copy. answered cluster (served_text (served copy.ops space (address / page_bytes))))
 
 -- a line of the output
 abbrev pub reply_line : List ℕ → List ℕ

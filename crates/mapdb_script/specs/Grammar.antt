@@ -1,6 +1,7 @@
 -- What a line says.
 use Rattle.std.specs.Prelude.{ℕ, List, [], ◌∷◌, Bool, false, Option, Some, None, Result, Ok, Err, if◌then◌else◌, ◌==◌, codes}
 use Rattle.std.specs.Str.{bytes_eq}
+use Rattle.mapdb_facts.specs.declared.names.Space.{Space}
 use Rattle.mapdb_script.specs.Lines.{without_return}
 use Rattle.mapdb_script.specs.Words.{words_of, one_of, three_of, six_of}
 use Rattle.mapdb_script.specs.Spellings.{◌>>=◌, or_fault, processor_at, space_at, address_at, base_at, fpage_at, send_at}
@@ -30,14 +31,14 @@ map_at words = do
   window ← fpage_at word.5
   Ok (line.Map processor sender (record { send_base = base; page = send.0; rights = send.1 }) receiver window)
 
--- rights P S ADDR
-unfoldable pub rights_query_at : List (List ℕ) → Result Line LineFault
-rights_query_at words = do
+-- P S ADDR
+unfoldable pub page_query_at : List (List ℕ) → Result (ℕ × Space × ℕ) LineFault
+page_query_at words = do
   word ← or_fault (three_of words) fault.Words
   processor ← processor_at word.0
   space ← space_at word.1
   address ← address_at word.2
-  Ok (line.Rights processor space address)
+  Ok (processor, space, address)
 
 -- the first word of a line
 abbrev pub keyword_of : List ℕ → Option Keyword
@@ -45,14 +46,16 @@ keyword_of word =
     if bytes_eq word (codes "processors") then Some keyword.Processors
     else (if bytes_eq word (codes "map") then Some keyword.Map
     else (if bytes_eq word (codes "rights") then Some keyword.Rights
-    else None))
+    else (if bytes_eq word (codes "served") then Some keyword.Served
+    else None)))
 
 -- what a line with this first word says, by the words behind it
 unfoldable pub line_at : Option Keyword → List (List ℕ) → Result Line LineFault
 line_at None words = Err fault.Unknown
 line_at (Some keyword.Processors) words = processors_at words
 line_at (Some keyword.Map) words = map_at words
-line_at (Some keyword.Rights) words = rights_query_at words
+line_at (Some keyword.Rights) words = page_query_at words >>= λ query. Ok (line.Rights query.0 query.1 query.2)
+line_at (Some keyword.Served) words = page_query_at words >>= λ query. Ok (line.Served query.0 query.1 query.2)
 
 -- The first word begins with #.
 abbrev pub is_comment : List ℕ → Bool

@@ -1,5 +1,5 @@
 -- The texts of replies, without the end of their line.
-use Rattle.std.specs.Prelude.{ℕ, ◌-◌, List, [], ◌∷◌, ◌++◌, false, length, replicate, codes, decimal, flat_map}
+use Rattle.std.specs.Prelude.{ℕ, ◌-◌, List, [], ◌∷◌, ◌++◌, false, length, Option, Some, None, replicate, codes, decimal, flat_map}
 use Rattle.std.specs.Fmt.{digits}
 use Rattle.mapdb_fpage.specs.RightSets.{text_of}
 use Rattle.mapdb_fpage.specs.declared.right_sets.Rights.{Rights}
@@ -32,6 +32,11 @@ mapping_text frame rights = frame_text frame ++ (codes ":" ++ text_of rights)
 abbrev pub rights_text : List (ℕ × Rights) → List ℕ
 rights_text [] = codes "rights none"
 rights_text (m ∷ ms) = codes "rights" ++ spaced (λ mapping. mapping_text mapping.0 mapping.1) (m ∷ ms)
+
+-- the frame that a page is served from, and the rights to it
+abbrev pub served_text : Option (ℕ × Rights) → List ℕ
+served_text None = codes "served none"
+served_text (Some mapping) = codes "served " ++ mapping_text mapping.0 mapping.1
 
 -- why a line does nothing
 abbrev pub refusal_text : Refusal → List ℕ

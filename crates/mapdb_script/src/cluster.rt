@@ -7,7 +7,7 @@ ghost use Rattle.mapdb_replica.specs.Replica.{empty};
 use crate::fault::LineFault;
 use crate::limits::MOST_PROCESSORS;
 use crate::lines::Line;
-use crate::replies::{Refusal, records_text, rights_text};
+use crate::replies::{Refusal, records_text, rights_text, served_text};
 use crate::turn_fault::TurnFault;
 use mapdb_facts::Space;
 use mapdb_fpage::{Fpage, MapItem, PAGE_BYTES};
@@ -91,10 +91,11 @@ pub struct Cluster {
 impl Cluster {
     ghost use Rattle.std.specs.Prelude.{◌≡◌, ◌≤◌, ◌<◌, ◌/◌, IfOk, IfSome, Ok, Err, Some, None, length, nat_lt, if◌then◌else◌};
     ghost use Rattle.mapdb_script.specs.Cluster.{answered, at_processor, begin, done_by, issue_done, names_text, no_copies};
-    ghost use Rattle.mapdb_script.specs.Reply.{rights_text};
+    ghost use Rattle.mapdb_script.specs.Reply.{rights_text, served_text};
     ghost use Rattle.mapdb_script.specs.States.{Does, cluster_of};
     ghost use Rattle.mapdb_replica.specs.Pairs.{page_rights};
     ghost use Rattle.mapdb_replica.specs.Replica.{map_outcome};
+    ghost use Rattle.mapdb_replica.specs.Served.{served};
 
     /// No cluster.
     pub fn new(alloc: Global) -> Self
@@ -174,6 +175,19 @@ impl Cluster {
         Ok(Reply::Answered(text))
     }
 
+    /// Asks a processor for the frame that a page is served from.
+    fn served(&self, at: u8, space: Space, address: u32) -> Result<Reply, TurnFault>
+        ensures { Does result (cluster_of self.now) (at_processor (cluster_of self.now) at
+            (λ copy. answered (cluster_of self.now) (served_text (served copy.ops space (address / PAGE_BYTES))))) }
+    {
+        let Some(at) = self.place(at)? else {
+            return Ok(Reply::Refused(Refusal::NoProcessor));
+        };
+        let mapping = self.copies[at].served(space, address / PAGE_BYTES);
+        let text = served_text(self.alloc, mapping)?;
+        Ok(Reply::Answered(text))
+    }
+
     /// Does what a line says.
     #[tactic(auto, unfolding(crate::specs::Cluster::done_by))]
     pub fn answer(&mut self, line: Line) -> Result<Reply, TurnFault>
@@ -188,6 +202,7 @@ impl Cluster {
                 self.map(at, sender, item, receiver, window)
             }
             Line::Rights(at, space, address) => self.rights(at, space, address),
+            Line::Served(at, space, address) => self.served(at, space, address),
         }
     }
 }

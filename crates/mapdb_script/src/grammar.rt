@@ -3,12 +3,13 @@
 ghost use Rattle.std.specs.Prelude.{◌≡◌};
 ghost use Rattle.mapdb_script.specs.Lines.{without_return};
 ghost use Rattle.mapdb_script.specs.Words.{words_of};
-ghost use Rattle.mapdb_script.specs.Grammar.{processors_at, map_at, rights_query_at, keyword_of, is_comment, line_at, said_by};
+ghost use Rattle.mapdb_script.specs.Grammar.{processors_at, map_at, page_query_at, keyword_of, is_comment, line_at, said_by};
 
 use crate::fault::LineFault;
 use crate::lines::Line;
 use crate::spellings::{address, base, fpage, processor, send, space};
 use crate::words::{next_word, one_word, six_words, three_words};
+use mapdb_facts::Space;
 use mapdb_fpage::MapItem;
 
 /// The first word of a line, which says what it does.
@@ -20,6 +21,8 @@ enum Keyword {
     Map,
     /// `rights`.
     Rights,
+    /// `served`.
+    Served,
 }
 
 /// A line without the byte 0D at its end.
@@ -66,10 +69,10 @@ fn map_line(words: &[u8]) -> Result<Line, LineFault>
     Ok(Line::Map(at, sender, item, receiver, window))
 }
 
-/// `rights P S ADDR`.
-#[tactic(auto, unfolding(crate::specs::Grammar::rights_query_at))]
-fn rights_line(words: &[u8]) -> Result<Line, LineFault>
-    ensures { result ≡ rights_query_at (words_of words.now) }
+/// `P S ADDR`, the page that a query asks for.
+#[tactic(auto, unfolding(crate::specs::Grammar::page_query_at))]
+fn page_query(words: &[u8]) -> Result<(u8, Space, u32), LineFault>
+    ensures { result ≡ page_query_at (words_of words.now) }
 {
     let Some((at, asked, byte)) = three_words(words) else {
         return Err(LineFault::Words);
@@ -77,7 +80,7 @@ fn rights_line(words: &[u8]) -> Result<Line, LineFault>
     let at = processor(at)?;
     let asked = space(asked)?;
     let byte = address(byte)?;
-    Ok(Line::Rights(at, asked, byte))
+    Ok((at, asked, byte))
 }
 
 /// What the first word says the line does.
@@ -90,6 +93,8 @@ fn keyword_of(word: &[u8]) -> Option<Keyword>
         Some(Keyword::Map)
     } else if word == b"rights".as_slice() {
         Some(Keyword::Rights)
+    } else if word == b"served".as_slice() {
+        Some(Keyword::Served)
     } else {
         None
     }
@@ -114,7 +119,14 @@ fn line_of(keyword: Option<Keyword>, words: &[u8]) -> Result<Line, LineFault>
         None => Err(LineFault::Unknown),
         Some(Keyword::Processors) => processors_line(words),
         Some(Keyword::Map) => map_line(words),
-        Some(Keyword::Rights) => rights_line(words),
+        Some(Keyword::Rights) => {
+            let (at, asked, byte) = page_query(words)?;
+            Ok(Line::Rights(at, asked, byte))
+        }
+        Some(Keyword::Served) => {
+            let (at, asked, byte) = page_query(words)?;
+            Ok(Line::Served(at, asked, byte))
+        }
     }
 }
 

@@ -13,4 +13,6 @@ pub enum Line {
     Map(u8, Space, MapItem, Space, Option<Fpage>),
     /// `rights P S ADDR`: at processor P, the rights of space S at a byte address.
     Rights(u8, Space, u32),
+    /// `served P S ADDR`: at processor P, the frame that space S is served from at a byte address.
+    Served(u8, Space, u32),
 }

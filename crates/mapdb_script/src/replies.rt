@@ -1,7 +1,7 @@
 //! The texts of replies, without the end of their line.
 
 ghost use Rattle.std.specs.Prelude.{◌≡◌, ◌∷◌, ◌++◌, IfOk, string_bytes};
-ghost use Rattle.mapdb_script.specs.Reply.{name_text, frame_text, mapping_text, records_text, rights_text};
+ghost use Rattle.mapdb_script.specs.Reply.{name_text, frame_text, mapping_text, records_text, rights_text, served_text};
 
 use mapdb_facts::{RecordId, Space};
 use mapdb_fpage::Rights;
@@ -81,6 +81,17 @@ pub fn rights_text(alloc: Global, mappings: &[(u32, Rights)]) -> Result<String, 
         text.push_str(mapping_text(alloc, *frame, *rights)?.as_str())?;
     }
     Ok(text)
+}
+
+/// `served` and the frame with its rights, or `served none`.
+pub fn served_text(alloc: Global, mapping: Option<(u32, Rights)>) -> Result<String, AllocError>
+    ensures { IfOk result (λ text. string_bytes text ≡ served_text mapping) }
+{
+    let Some((frame, rights)) = mapping else {
+        return String::from_str(alloc, "served none");
+    };
+    let text = mapping_text(alloc, frame, rights)?;
+    format!(in alloc; "served {text}")
 }
 
 impl Refusal {

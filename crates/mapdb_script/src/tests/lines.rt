@@ -37,6 +37,10 @@ fn lines_say_commands(rt: HostRuntime) -> Result<(), Fail> {
         parse_line(b"rights 1 65535 fffff000"),
         Ok(Some(Line::Rights(1, second, 0xffff_f000)))
     );
+    assert_eq!(rt;
+        parse_line(b"served 1 65535 fffff000"),
+        Ok(Some(Line::Served(1, second, 0xffff_f000)))
+    );
     for line in [b"".as_slice(), b"   ", b"\r", b"# \xff", b"  #map"] {
         assert_eq!(rt; parse_line(line), Ok(None));
     }
@@ -48,7 +52,9 @@ fn words_are_looked_at_in_order(rt: HostRuntime) {
     for (line, fault) in [
         (b"\t#".as_slice(), LineFault::Unknown),
         (b"Rights 0 0 0", LineFault::Unknown),
+        (b"serve 0 0 0", LineFault::Unknown),
         (b"rights 0 x", LineFault::Words),
+        (b"served 0 x", LineFault::Words),
         (b"processors 1 2", LineFault::Words),
         (b"map 0 0 x y z w v", LineFault::Words),
         (b"processors 256", LineFault::Number),
@@ -56,6 +62,8 @@ fn words_are_looked_at_in_order(rt: HostRuntime) {
         (b"rights 0 65536 0", LineFault::Number),
         (b"rights 0 0 0x1", LineFault::Number),
         (b"rights 0 0 000000000", LineFault::Number),
+        (b"served 256 65536 0", LineFault::Number),
+        (b"served 0 0 100000000", LineFault::Number),
         (b"map 0 0 10000/11 0 1 x", LineFault::PageSyntax),
         (b"map 0 0 x:zzz y z w", LineFault::PageSyntax),
         (b"map 0 0 10000/256:rwx 0 1 all", LineFault::PageSyntax),

@@ -185,16 +185,20 @@ fn occupied_destination(rt: HostRuntime) -> Result<(), Fail> {
     writes(
         &rt,
         rt.alloc(),
-        5,
+        7,
         "processors 1\n\
         map 0 0 10000/12:r-- 0 1 20000/12\n\
         map 0 0 10000/12:rw- 0 1 20000/12\n\
         map 0 0 30000/12:rwx 0 1 20000/12\n\
-        rights 0 1 20000\n",
+        rights 0 1 20000\n\
+        served 0 1 20fff\n\
+        served 0 1 21000\n",
         "records 1.0\n\
         records 2.0\n\
         records 3.0\n\
-        rights 00010:rw- 00030:rwx\n",
+        rights 00010:rw- 00030:rwx\n\
+        served 00010:rw-\n\
+        served none\n",
     )
 }
 
@@ -218,16 +222,16 @@ fn missing_things(rt: HostRuntime) -> Result<(), Fail> {
     let alloc = rt.alloc();
     let mut written = Vec::new(alloc);
     let mut reader = FromRead::new(
-        b"processors 1\nrights 7 0 0\nmap 0 0 all:rwx 0 0 all".as_slice(),
+        b"processors 1\nrights 7 0 0\nserved 1 0 0\nmap 0 0 all:rwx 0 0 all".as_slice(),
     );
     let summary = run(alloc, &mut reader, &mut ToWrite::new(&mut written))?;
     assert_eq!(rt;
         (summary.lines, summary.commands, summary.refused),
-        (3, 3, 2)
+        (4, 4, 3)
     );
     assert_eq!(rt;
         String::from_utf8(written)?.as_str(),
-        "refused no-processor\nrefused root-space\n"
+        "refused no-processor\nrefused no-processor\nrefused root-space\n"
     );
     Ok(())
 }
@@ -240,6 +244,12 @@ fn clusters_are_made_once(rt: HostRuntime) -> Result<(), Fail> {
             1,
             LineFault::NoProcessors,
             "line 1 fault no-processors\n",
+        ),
+        (
+            "\nserved 0 0 0\n",
+            2,
+            LineFault::NoProcessors,
+            "line 2 fault no-processors\n",
         ),
         (
             "#\nprocessors 0",
