@@ -13,3 +13,5 @@ pub mod BatchClashes
 pub mod SeenClashes
 pub mod NewsOfBatches
 pub mod TurnsOfBatches
+pub mod NewsAtoms
+pub mod SoundIssues

@@ -3,6 +3,7 @@
 ghost use Rattle.mapdb_replica.specs.Agreement.{AgreementIsOfAtoms};
 ghost use Rattle.mapdb_replica.specs.Pairs.{PageRightsAreListed};
 ghost use Rattle.mapdb_replica.specs.Served.{PageIsServed};
+ghost use Rattle.mapdb_replica.specs.Sound.{IssuesAreSound, NewsGiveTheRest};
 
 /// The listed rights of a page are those of the page: frames rise, each with some right, and a right is listed under a
 /// frame exactly where some record of the space has it there and reaches the frame.
@@ -21,4 +22,14 @@ pub fn order_is_free()
 /// record of the space has there and reaches this frame; from none exactly where no record of the space has any.
 pub fn page_is_served()
     ensures { PageIsServed }
+{}
+
+/// What a command issues has no name that is held, and no name twice.
+pub fn issues_are_sound()
+    ensures { IssuesAreSound }
+{}
+
+/// What is new of a list at its turn, behind what is held, gives the same atoms as the whole list there.
+pub fn news_give_the_rest()
+    ensures { NewsGiveTheRest }
 {}

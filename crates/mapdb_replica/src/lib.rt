@@ -5,6 +5,7 @@
 #![tactic(auto)]
 
 mod batches;
+mod commands;
 mod comparing;
 mod faults;
 mod giving;
@@ -17,6 +18,7 @@ mod replicas;
 mod serving;
 mod taking;
 
+pub use commands::Command;
 pub use faults::{GiveFault, IssueFault, MOST_OPERATIONS, TakeFault};
 pub use replicas::Replica;
 
