@@ -15,3 +15,4 @@ pub mod NewsOfBatches
 pub mod TurnsOfBatches
 pub mod NewsAtoms
 pub mod SoundIssues
+pub mod SoundTakes

@@ -3,7 +3,7 @@
 ghost use Rattle.mapdb_replica.specs.Agreement.{AgreementIsOfAtoms};
 ghost use Rattle.mapdb_replica.specs.Pairs.{PageRightsAreListed};
 ghost use Rattle.mapdb_replica.specs.Served.{PageIsServed};
-ghost use Rattle.mapdb_replica.specs.Sound.{IssuesAreSound, NewsGiveTheRest};
+ghost use Rattle.mapdb_replica.specs.Sound.{ClashIsLeast, IssuesAreSound, NewsGiveTheRest, NoClashIsSound, TakesAreSound};
 
 /// The listed rights of a page are those of the page: frames rise, each with some right, and a right is listed under a
 /// frame exactly where some record of the space has it there and reaches the frame.
@@ -24,9 +24,17 @@ pub fn page_is_served()
     ensures { PageIsServed }
 {}
 
-/// What a command issues has no name that is held, and no name twice.
-pub fn issues_are_sound()
-    ensures { IssuesAreSound }
+/// No two different records of a copy have one name: a command issues none that is held, nor any twice, and a batch is
+/// taken only where what is held is sound with it.
+pub fn names_stay_apart()
+    ensures issues { IssuesAreSound }
+    ensures takes { TakesAreSound }
+{}
+
+/// A batch clashes exactly where different records of one name are held or stand in it, and the least such name is told.
+pub fn clash_is_exact()
+    ensures least { ClashIsLeast }
+    ensures none { NoClashIsSound }
 {}
 
 /// What is new of a list at its turn, behind what is held, gives the same atoms as the whole list there.
