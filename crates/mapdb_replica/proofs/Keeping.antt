@@ -12,7 +12,6 @@ use Rattle.mapdb_facts.proofs.Atoms.{atom_kept}
 use Rattle.mapdb_facts.proofs.Joins.{atom_append}
 use Rattle.mapdb_facts.specs.WellFormed.{checked, is_formed}
 use Rattle.mapdb_facts.specs.declared.checking.OpFault.{OpFault}
-use Rattle.mapdb_facts.specs.declared.holding.AddFault.{AddFault}
 use Rattle.mapdb_facts.specs.declared.holding.AddFault.TheVariants.{Clash}
 use Rattle.mapdb_facts.specs.declared.holding.Facts.{Facts}
 use Rattle.mapdb_facts.specs.declared.names.RecordId.{RecordId}

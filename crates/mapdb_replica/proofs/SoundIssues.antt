@@ -1,5 +1,5 @@
 -- What a copy issues has no name that is held, and no name twice.
-use Rattle.std.proofs.Common.{◌≡◌, ℕ, suc, ◌+◌, ◌<◌, ◌≤◌, Bool, true, false, Ok, Err, Result, refl, sym, subst, ◌∙◌, inl, inr, List, [], ◌∷◌, ◌++◌, ap, arith}
+use Rattle.std.proofs.Common.{◌≡◌, ℕ, ◌+◌, ◌<◌, ◌≤◌, Bool, true, false, Ok, Err, sym, subst, ◌∙◌, inl, inr, List, [], ◌∷◌, ◌++◌, ap, arith}
 use Rattle.std.specs.Prelude.{◌⊎◌, Option, Some, None, if◌then◌else◌}
 use Rattle.std.specs.List.{cons_option, filter_map, flat_map}
 use Rattle.mapdb_fpage.specs.Place.{Place, meet}
@@ -13,14 +13,13 @@ use Rattle.mapdb_facts.specs.State.{HasAtom, IsSound, Rec, state_of}
 use Rattle.mapdb_facts.specs.declared.names.RecordId.{RecordId}
 use Rattle.mapdb_facts.specs.declared.names.Space.{Space}
 use Rattle.mapdb_facts.specs.declared.operations.Op.{Op}
-use Rattle.mapdb_facts.specs.declared.operations.Op.TheVariants.{Born, Closed}
+use Rattle.mapdb_facts.specs.declared.operations.Op.TheVariants.{Closed}
 use Rattle.mapdb_facts.specs.declared.operations.Record.{Record}
 use Rattle.mapdb_facts.proofs.Ascending.{found_listed, most_of}
 use Rattle.mapdb_facts.proofs.Atoms.{atom_kept}
 use Rattle.mapdb_facts.proofs.Joins.{atom_append}
-use Rattle.mapdb_replica.specs.Commands.{command_outcome}
-use Rattle.mapdb_replica.specs.Issue.{holders, map_candidates, numbered, pieces, record_of}
-use Rattle.mapdb_replica.specs.Replica.{Log, issued_unless, limit_refusal, limited, news, space_refusal, unless_spaces}
+use Rattle.mapdb_replica.specs.Issue.{holders, map_candidates, numbered, pieces}
+use Rattle.mapdb_replica.specs.Replica.{issued_unless, limit_refusal, limited, news, space_refusal, unless_spaces}
 use Rattle.mapdb_replica.specs.Sound.{IssuesAreSound}
 use Rattle.mapdb_replica.specs.Unmap.{child_cut, child_cut_with, cuts_within, end_refusal, ended_refusal, holder_cuts, own_cut, source_place, unmap_candidates}
 use Rattle.mapdb_replica.specs.declared.commands.Command.TheVariants.{End, Map, Unmap}

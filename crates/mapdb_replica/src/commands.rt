@@ -21,5 +21,7 @@ pub enum Command {
         flush: bool,
     },
     /// Ends the space, for good.
-    End { space: Space },
+    End {
+        space: Space,
+    },
 }
