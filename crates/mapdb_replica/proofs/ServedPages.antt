@@ -22,20 +22,19 @@ use Rattle.mapdb_replica.specs.declared.pieces.Holder.{Holder}
 use Rattle.mapdb_replica.proofs.Gathering.{behind-none}
 use Rattle.mapdb_replica.proofs.PairLaws.{above-lower, some_rising}
 
-union-none : (rights : Rights) → union no_rights rights ≡ rights
-union-none rights = refl
-
 -- a frame that is below all that are listed has no rights
 listed_under-above : (frame : ℕ) (pairs : List Pair) → AllAbove frame pairs → listed_under frame pairs ≡ no_rights
 listed_under-above frame [] above = refl
 listed_under-above frame (pair ∷ rest) above = cond-false (pair.0 == frame) pair.1 (listed_under frame rest) (grind (arith, nat_tests, above.0)) ∙ listed_under-above frame rest above.1
 
+-- frames that are one are told from a frame alike, and two frames are not both one frame
 alike : (n m frame : ℕ) (a b : Bool) → (n == m) ≡ true → (n == frame) ≡ a → (m == frame) ≡ b → a ≡ b
 alike n m frame a b same is_a is_b = sym is_a ∙ ap (λ k. k == frame) (eqb-true n m same) ∙ is_b
 
 apart : (n m frame : ℕ) → (n == m) ≡ false → (n == frame) ≡ true → (m == frame) ≡ true → ⊥
 apart n m frame differ is_n is_m = grind (arith, nat_tests)
 
+-- what is listed under a frame, with a pair more
 under_by : (frame : ℕ) (pair other : Pair) (rest : List Pair) (a b d e : Bool) → nat_lt pair.0 other.0 ≡ a → (pair.0 == other.0) ≡ b → (other.0 == frame) ≡ d → (pair.0 == frame) ≡ e
     → AllAbove other.0 rest → listed_under frame (with_pair pair rest) ≡ (if e then union (listed_under frame rest) pair.1 else listed_under frame rest)
     → listed_under frame (if a then pair ∷ other ∷ rest else (if b then (other.0, union other.1 pair.1) ∷ rest else other ∷ with_pair pair rest))
@@ -65,10 +64,10 @@ listed_under-with frame pair (other ∷ rest) rising =
 
 -- What is found over holders.
 module _ (S : State) (page : ℕ) where
-  -- what is listed under the first frame, with what a later holder has
   abbrev some_of : ℕ → Rights → Option Pair
   some_of frame rights = Some (frame, rights)
 
+  -- what is listed under the first frame, with what a later holder has
   later_by : (id : RecordId) (frame : ℕ) (known : List Pair) (o : Option Pair) → IsRising known → with_later (Some (frame, listed_under frame known)) o ≡ Some (frame, listed_under frame (with_some o known))
   later_by id frame known None rising = refl
   later_by id frame known (Some pair) rising = ap (some_of frame) (sym (listed_under-with frame pair known rising))
