@@ -6,6 +6,7 @@ use mapdb_fpage::{Fpage, MapItem, Rights};
 use std::process::Abort;
 use std::test::Fail;
 
+mod giving;
 mod taking;
 
 /// The name of a record of processor 0.

@@ -89,22 +89,29 @@ fn records_of_a_batch_clash(rt: HostRuntime) -> Result<(), Fail> {
     ];
     assert_eq!(rt; copy.take(&batch), Err(TakeFault::Clash(other)));
     expect_held(&rt, &copy, &[])?;
-    assert_eq!(rt; copy.take(&batch[..3]), Ok(3));
-    assert_eq!(rt; copy.take(&batch[3..5]), Err(TakeFault::Clash(id(3))));
-    expect_held(&rt, &copy, &batch[..3])
+    let (front, back) = batch.as_slice().split_at(3);
+    assert_eq!(rt; copy.take(front), Ok(3));
+    assert_eq!(rt; copy.take(back), Err(TakeFault::Clash(other)));
+    expect_held(&rt, &copy, front)
 }
 
 #[test]
 fn parents_may_come_last(rt: HostRuntime) -> Result<(), Fail> {
-    let child = born(id(2), 2, id(1), 0x20)?;
-    let parent = of_root(1, 0x10)?;
+    let batch = [
+        born(id(2), 2, id(1), 0x20)?,
+        end(7),
+        born(id(2), 2, id(1), 0x20)?,
+        of_root(1, 0x10)?,
+        end(7),
+    ];
+    let news = [born(id(2), 2, id(1), 0x20)?, end(7), of_root(1, 0x10)?];
     let mut copy = Replica::new(rt.alloc(), 1);
-    assert_eq!(rt; copy.take(&[child, end(7), child, parent, end(7)]), Ok(3));
-    expect_held(&rt, &copy, &[child, end(7), parent])?;
+    assert_eq!(rt; copy.take(&batch), Ok(3));
+    expect_held(&rt, &copy, &news)?;
     expect_rights(&rt, &copy, 2, 0x20, &[(0x10, 7)])?;
-    assert_eq!(rt; copy.take(&[parent, child]), Ok(0));
+    assert_eq!(rt; copy.take(&batch), Ok(0));
     assert_eq!(rt; copy.take(&[]), Ok(0));
-    expect_held(&rt, &copy, &[child, end(7), parent])
+    expect_held(&rt, &copy, &news)
 }
 
 #[test]
