@@ -47,13 +47,15 @@ impl Facts {
     ghost use Rattle.std.specs.Prelude.{◌≡◌, ◌⊎◌, ◌<◌, ◌↔◌, true, false, Ok, Err, None, Some, IfOk, IfErr, IfSome, IsOk, IsSome, IsTrue, OnOk, OnErr, Result, Bool};
     ghost use Rattle.mapdb_facts.specs.Adding.{added, clash_of, cut_at, is_new};
     ghost use Rattle.mapdb_facts.specs.Facts.{records_of_facts, state_of_facts};
-    ghost use Rattle.mapdb_facts.specs.Looking.{IsFirstAbove, IsFound, IsGreatest, IsNextOfNumber};
+    ghost use Rattle.mapdb_facts.specs.Looking.{Holds, IsFirstAbove, IsFound, IsGreatest, IsNextOfNumber};
+    ghost use Rattle.mapdb_facts.specs.Merging.{IsNamed};
     ghost use Rattle.mapdb_facts.specs.Records.{ComesNext, greatest_number};
     ghost use Rattle.mapdb_facts.specs.State.{join, nothing, said};
     ghost use Rattle.mapdb_facts.specs.Taking.{Knows};
     ghost use Rattle.mapdb_facts.specs.WellFormed.{IsFormedRecord, checked, is_formed};
     ghost use Rattle.mapdb_facts.specs.declared.holding.AddFault.{AddFault};
     ghost use Rattle.mapdb_facts.specs.declared.operations.Op.{Op};
+    ghost use Rattle.mapdb_facts.specs.declared.operations.Record.{Record};
 
     /// No facts. It takes no memory.
     pub fn new(alloc: Global) -> Facts
@@ -75,6 +77,14 @@ impl Facts {
         let by_processor = self.records.get(&id.number)?;
         let held = by_processor.get(&id.processor)?;
         Some(held.get())
+    }
+
+    /// Each held record stands under its own name and is well-formed. This does nothing: it tells proofs so.
+    pub fn prove_held(&self)
+        ensures named { IsNamed (state_of_facts self.now) }
+        ensures formed { (r : Record) → Holds (state_of_facts self.now) r → IsFormedRecord r }
+    {
+        let _records = &self.records;
     }
 
     /// The record of this number with the least processor above another.

@@ -16,3 +16,4 @@ pub mod TurnsOfBatches
 pub mod NewsAtoms
 pub mod SoundIssues
 pub mod SoundTakes
+pub mod HolderNames

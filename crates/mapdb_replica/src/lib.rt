@@ -10,6 +10,7 @@ mod comparing;
 mod faults;
 mod giving;
 pub mod laws;
+mod losses;
 mod mapping;
 mod page_rights;
 mod page_served;
