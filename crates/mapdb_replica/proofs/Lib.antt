@@ -17,3 +17,6 @@ pub mod NewsAtoms
 pub mod SoundIssues
 pub mod SoundTakes
 pub mod HolderNames
+pub mod Grouping
+pub mod HolderTurns
+pub mod UnmapTurns

@@ -1,6 +1,6 @@
 //! What one record loses by an Unmap.
 
-ghost use Rattle.std.specs.Prelude.{◌≡◌, Some};
+ghost use Rattle.std.specs.Prelude.{◌≡◌};
 ghost use Rattle.mapdb_facts.specs.Facts.{records_of_facts};
 ghost use Rattle.mapdb_facts.specs.WellFormed.{IsFormedRecord};
 ghost use Rattle.mapdb_fpage.specs.Place.{meet};
@@ -103,9 +103,10 @@ pub fn child_loss(
 
 /// What a holder itself loses: nothing, unless the Unmap is a flush.
 #[tactic(auto, unfolding(crate::specs::Revoking::own_loss))]
-pub fn own_loss(page: &Fpage, rights: Rights, flush: bool, holder: &Holder) -> Option<Loss>
-    ensures { result ≡ own_loss page.now rights flush (Some holder.now) }
+pub fn own_loss(page: &Fpage, rights: Rights, flush: bool, holder: Option<Holder>) -> Option<Loss>
+    ensures { result ≡ own_loss page.now rights flush holder }
 {
+    let holder = holder?;
     let part = holder.place.meet(page)?;
     if flush {
         Some(Loss {
