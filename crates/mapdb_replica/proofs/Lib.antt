@@ -20,3 +20,6 @@ pub mod HolderNames
 pub mod Grouping
 pub mod HolderTurns
 pub mod UnmapTurns
+pub mod SortedTurns
+pub mod NewTotals
+pub mod CutForms

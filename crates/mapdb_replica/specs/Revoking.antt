@@ -1,12 +1,16 @@
 -- What records lose by an Unmap, each by itself: as a child of a holder of the space, and with a flush as a holder.
-use Rattle.std.specs.Prelude.{◌≡◌, Bool, false, List, [], ◌∷◌, Option, Some, None, filter, if◌then◌else◌}
+use Rattle.std.specs.Prelude.{◌≡◌, ℕ, Bool, false, List, [], ◌∷◌, Ok, Option, Some, None, count_by, filter, if◌then◌else◌}
 use Rattle.std.specs.List.{cons_option, filter_map}
 use Rattle.mapdb_fpage.specs.Place.{Place, meet, whole}
 use Rattle.mapdb_fpage.specs.declared.right_sets.Rights.{Rights}
+use Rattle.mapdb_facts.specs.Adding.{is_new}
 use Rattle.mapdb_facts.specs.Names.{is_before, is_first_space, root, same_id, same_space}
+use Rattle.mapdb_facts.specs.State.{State}
+use Rattle.mapdb_facts.specs.WellFormed.{checked}
 use Rattle.mapdb_facts.specs.declared.names.RecordId.{RecordId}
 use Rattle.mapdb_facts.specs.declared.names.Space.{Space}
 use Rattle.mapdb_facts.specs.declared.operations.Op.{Op}
+use Rattle.mapdb_facts.specs.declared.operations.Op.TheVariants.{Born, Closed, Cut}
 use Rattle.mapdb_facts.specs.declared.operations.Record.{Record}
 use Rattle.mapdb_replica.specs.Issue.{holder_of, holders}
 use Rattle.mapdb_replica.specs.Unmap.{child_cut_with, cut_from, source_place}
@@ -89,3 +93,22 @@ InTurn (loss ∷ rest) = NoneBefore loss.holder rest × InTurn rest
 pub record IsGrouped (old new : List Loss) : Type 0 where
   pub in_turn : InTurn new
   pub kept : (id : RecordId) → filter (is_in_turn id) new ≡ filter (is_in_turn id) old
+
+-- 1 where something is lost that is not lost yet
+abbrev pub new_in : State → Option Loss → ℕ
+new_in S None = 0
+new_in S (Some loss) = if is_new S loss.op then 1 else 0
+
+-- how many are not lost yet
+unfoldable pub new_total : State → List Loss → ℕ
+new_total S losses = count_by (λ (loss : Loss). is_new S loss.op) losses
+
+-- a well-formed revocation
+abbrev pub IsFormedCut : Op → Type 0
+IsFormedCut (Born r) = ⊥
+IsFormedCut (Cut cut) = checked (Cut cut) ≡ Ok tt
+IsFormedCut (Closed space) = ⊥
+
+abbrev pub AllCuts : List Op → Type 0
+AllCuts [] = Unit {0}
+AllCuts (op ∷ ops) = IsFormedCut op × AllCuts ops

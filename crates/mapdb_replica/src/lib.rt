@@ -16,6 +16,7 @@ mod page_rights;
 mod page_served;
 mod pieces;
 mod replicas;
+mod revocations;
 mod serving;
 mod taking;
 
