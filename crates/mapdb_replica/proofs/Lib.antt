@@ -23,3 +23,4 @@ pub mod UnmapTurns
 pub mod SortedTurns
 pub mod NewTotals
 pub mod CutForms
+pub mod CutIssues

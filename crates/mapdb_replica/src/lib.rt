@@ -19,6 +19,7 @@ mod replicas;
 mod revocations;
 mod serving;
 mod taking;
+mod unmapping;
 
 pub use commands::Command;
 pub use faults::{GiveFault, IssueFault, MOST_OPERATIONS, TakeFault};
