@@ -8,6 +8,7 @@ use std::test::Fail;
 
 mod giving;
 mod taking;
+mod unmapping;
 
 /// The name of a record of processor 0.
 fn id(number: u64) -> RecordId {
