@@ -1,0 +1,4 @@
+pub mod Slots
+pub mod Holding
+pub mod Stepping
+pub mod Running

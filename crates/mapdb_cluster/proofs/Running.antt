@@ -1,0 +1,95 @@
+-- Whatever a run does, each copy holds what it held and what it took; so copies that took the same look alike.
+use Rattle.std.proofs.Common.{◌≡◌, ℕ, zero, suc, ◌+◌, Some, refl, sym, subst, ap, ◌∙◌, inl, inr, List, [], ◌∷◌, ◌++◌, append_assoc, map}
+use Rattle.std.specs.Prelude.{◌⊎◌, Option, None, slice_get}
+use Rattle.std.specs.List.{range_with_len}
+use Rattle.mapdb_facts.specs.State.{Atom, HasAtom, IsSound, Rec, SameAtoms}
+use Rattle.mapdb_facts.specs.declared.operations.Op.{Op}
+use Rattle.mapdb_facts.proofs.Joins.{atom_append, atom_left, atom_right}
+use Rattle.mapdb_replica.specs.Replica.{Log, empty}
+use Rattle.mapdb_replica.proofs.Agreeing.{look_alike}
+use Rattle.mapdb_cluster.specs.Laws.{AreCopiesOfRuns, AreSound, CopiesAgree, HoldsTook, SchedulesAreExact}
+use Rattle.mapdb_cluster.specs.Net.{Done, Net, new_net}
+use Rattle.mapdb_cluster.specs.Run.{Move, after, done_by, took, took_by}
+use Rattle.mapdb_cluster.proofs.Holding.{same_itself, same_trans, same_turned}
+use Rattle.mapdb_cluster.proofs.Slots.{none_some, one_there}
+use Rattle.mapdb_cluster.proofs.Stepping.{move_hold}
+
+same_behind : (xs ys zs : List Op) → SameAtoms xs ys → SameAtoms (xs ++ zs) (ys ++ zs)
+same_behind xs ys zs same atom = (λ has. forth xs ys (λ h. (same atom).0 h) (atom_append xs zs atom has), λ has. forth ys xs (λ h. (same atom).1 h) (atom_append ys zs atom has))
+  where
+    forth : (us bs : List Op) → (HasAtom us atom → HasAtom bs atom) → HasAtom us atom ⊎ HasAtom zs atom → HasAtom (bs ++ zs) atom
+    forth us bs to (inl before) = atom_left bs zs atom (to before)
+    forth us bs to (inr later) = atom_right bs zs atom later
+
+nothing_more : (xs : List Op) → SameAtoms xs (xs ++ [])
+nothing_more xs atom = (λ has. atom_left xs [] atom has, λ has. first (atom_append xs [] atom has))
+  where
+    first : HasAtom xs atom ⊎ HasAtom [] atom → HasAtom xs atom
+    first (inl before) = before
+    first (inr later) = absurd later
+
+pub schedules_are_exact : SchedulesAreExact
+schedules_are_exact net [] sound at before there = record { copy = before; there = there; atoms = nothing_more before.ops; sound = sound at before there }
+schedules_are_exact net (move ∷ moves) sound at before there =
+    let done : Done = done_by net move in
+    let one = move_hold net sound move in
+    let held = one.hold at before there in
+    let rest = schedules_are_exact done.net moves one.sound at held.copy held.there in
+    let assoc : (before.ops ++ took_by done at) ++ took done.net moves at ≡ before.ops ++ (took_by done at ++ took done.net moves at) = append_assoc before.ops (took_by done at) (took done.net moves at) in
+    record {
+      copy = rest.copy;
+      there = rest.there;
+      atoms = subst (λ (xs : List Op). SameAtoms rest.copy.ops xs) assoc
+          (same_trans rest.copy.ops (held.copy.ops ++ took done.net moves at) ((before.ops ++ took_by done at) ++ took done.net moves at) rest.atoms
+          (same_behind held.copy.ops (before.ops ++ took_by done at) (took done.net moves at) held.atoms));
+      sound = rest.sound;
+    }
+
+-- there are no more copies than there were
+absent_after : (net : Net) (moves : List Move) (at : ℕ) → AreSound net → slice_get net.copies at ≡ None → slice_get (after net moves).copies at ≡ None
+absent_after net [] at sound gone = gone
+absent_after net (move ∷ moves) at sound gone = let one = move_hold net sound move in absent_after (done_by net move).net moves at one.sound (one.absent at gone)
+
+-- at the start no copy holds anything
+empty_at : (first count at : ℕ) (copy : Log) → slice_get (map empty (range_with_len first count)) at ≡ Some copy → copy.ops ≡ []
+empty_at first zero at copy there = absurd (none_some copy there)
+empty_at first (suc count) zero copy there = same there
+  where
+    same : Some (empty first) ≡ Some copy → copy.ops ≡ []
+    same e = ap (λ (c : Log). c.ops) (sym (one e))
+      where
+        one : Some (empty first) ≡ Some copy → empty first ≡ copy
+        one h = cc
+empty_at first (suc count) (suc at) copy there = empty_at (first + 1) count at copy there
+
+new_sound : (count : ℕ) → AreSound (new_net count)
+new_sound count at copy there r s in_r in_s same = absurd (subst (λ (xs : List Op). HasAtom xs (Rec r)) (empty_at 0 count at copy there) in_r)
+
+-- a copy of a run holds what it took
+pub record HoldsRun (ops taken : List Op) : Type 0 where
+  pub atoms : SameAtoms ops taken
+  pub sound : IsSound ops
+
+pub run_holds : (count : ℕ) (moves : List Move) (at : ℕ) (copy : Log) → slice_get (after (new_net count) moves).copies at ≡ Some copy → HoldsRun copy.ops (took (new_net count) moves at)
+run_holds count moves at copy there = by_start (slice_get (new_net count).copies at) refl
+  where
+    by_start : (o : Option Log) → slice_get (new_net count).copies at ≡ o → HoldsRun copy.ops (took (new_net count) moves at)
+    by_start None gone = absurd (none_some copy (sym (absent_after (new_net count) moves at (new_sound count) gone) ∙ there))
+    by_start (Some before) start =
+        let held = schedules_are_exact (new_net count) moves (new_sound count) at before start in
+        let one : held.copy ≡ copy = one_there (after (new_net count) moves).copies at held.copy copy held.there there in
+        let nothing : before.ops ≡ [] = empty_at 0 count at before start in
+        record {
+          atoms = subst (λ (c : Log). SameAtoms c.ops (took (new_net count) moves at)) one (subst (λ (xs : List Op). SameAtoms held.copy.ops (xs ++ took (new_net count) moves at)) nothing held.atoms);
+          sound = subst (λ (c : Log). IsSound c.ops) one held.sound;
+        }
+
+pub copies_agree : CopiesAgree
+copies_agree count other_count moves other_moves at other copy other_copy is =
+    let mine = run_holds count moves at copy is.there in
+    let yours = run_holds other_count other_moves other other_copy is.other_there in
+    let same : SameAtoms copy.ops other_copy.ops =
+    same_trans copy.ops (took (new_net count) moves at) other_copy.ops mine.atoms
+    (same_trans (took (new_net count) moves at) (took (new_net other_count) other_moves other) other_copy.ops is.same_took
+    (same_turned other_copy.ops (took (new_net other_count) other_moves other) yours.atoms)) in
+    (same, look_alike copy.ops other_copy.ops mine.sound same)
