@@ -24,3 +24,4 @@ pub mod SortedTurns
 pub mod NewTotals
 pub mod CutForms
 pub mod CutIssues
+pub mod Bounding

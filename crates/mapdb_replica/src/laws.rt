@@ -1,6 +1,7 @@
 //! Laws of a copy's answers, each the contract of a function that does nothing.
 
 ghost use Rattle.mapdb_replica.specs.Agreement.{AgreementIsOfAtoms};
+ghost use Rattle.mapdb_replica.specs.Bounds.{MergeIsLeast};
 ghost use Rattle.mapdb_replica.specs.Pairs.{PageRightsAreListed};
 ghost use Rattle.mapdb_replica.specs.Served.{PageIsServed};
 ghost use Rattle.mapdb_replica.specs.Sound.{ClashIsLeast, IssuesAreSound, NewsGiveTheRest, NoClashIsSound, TakesAreSound};
@@ -40,4 +41,10 @@ pub fn clash_is_exact()
 /// What is new of a list at its turn, behind what is held, gives the same atoms as the whole list there.
 pub fn news_give_the_rest()
     ensures { NewsGiveTheRest }
+{}
+
+/// A copy that took all that another one holds is the least that has what both held; it is refused as a clash exactly where
+/// nothing sound has both.
+pub fn merge_is_least()
+    ensures { MergeIsLeast }
 {}
