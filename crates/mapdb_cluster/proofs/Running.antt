@@ -2,12 +2,18 @@
 use Rattle.std.proofs.Common.{◌≡◌, ℕ, zero, suc, ◌+◌, Some, refl, sym, subst, ap, ◌∙◌, inl, inr, List, [], ◌∷◌, ◌++◌, append_assoc, map}
 use Rattle.std.specs.Prelude.{◌⊎◌, Option, None, slice_get}
 use Rattle.std.specs.List.{range_with_len}
-use Rattle.mapdb_facts.specs.State.{Atom, HasAtom, IsSound, Rec, SameAtoms}
+use Rattle.std.proofs.lemmas.Bool.{and_from}
+use Rattle.mapdb_facts.specs.State.{Atom, HasAtom, IsSound, Rec, SameAtoms, state_of}
 use Rattle.mapdb_facts.specs.declared.operations.Op.{Op}
+use Rattle.mapdb_facts.proofs.Atoms.{record_held}
 use Rattle.mapdb_facts.proofs.Joins.{atom_append, atom_left, atom_right}
+use Rattle.mapdb_rights.specs.Right.{source_page}
+use Rattle.mapdb_rights.proofs.Backed.{backing, lies_in-right}
+use Rattle.mapdb_replica.specs.Agreement.{knows_all}
 use Rattle.mapdb_replica.specs.Replica.{Log, empty}
-use Rattle.mapdb_replica.proofs.Agreeing.{look_alike}
-use Rattle.mapdb_cluster.specs.Laws.{AreCopiesOfRuns, AreSound, CopiesAgree, HoldsTook, SchedulesAreExact}
+use Rattle.mapdb_replica.proofs.Agreeing.{covers_known, look_alike}
+use Rattle.mapdb_replica.proofs.Bounding.{merge_is_least}
+use Rattle.mapdb_cluster.specs.Laws.{AreCopiesOfRuns, AreSound, CopiesAgree, HoldsTook, JoinIsLeast, NoEscalation, SchedulesAreExact}
 use Rattle.mapdb_cluster.specs.Net.{Done, Net, new_net}
 use Rattle.mapdb_cluster.specs.Run.{Move, after, done_by, took, took_by}
 use Rattle.mapdb_cluster.proofs.Holding.{same_itself, same_trans, same_turned}
@@ -92,4 +98,20 @@ copies_agree count other_count moves other_moves at other copy other_copy is =
     same_trans copy.ops (took (new_net count) moves at) other_copy.ops mine.atoms
     (same_trans (took (new_net count) moves at) (took (new_net other_count) other_moves other) other_copy.ops is.same_took
     (same_turned other_copy.ops (took (new_net other_count) other_moves other) yours.atoms)) in
-    (same, look_alike copy.ops other_copy.ops mine.sound same)
+    record {
+      atoms = same;
+      alike = look_alike copy.ops other_copy.ops mine.sound same;
+      told =
+          and_from (knows_all copy.ops other_copy.ops) (knows_all other_copy.ops copy.ops)
+          (covers_known copy.ops other_copy.ops mine.sound (λ atom has. (same atom).1 has))
+          (covers_known other_copy.ops copy.ops yours.sound (λ atom has. (same atom).0 has));
+    }
+
+pub join_is_least : JoinIsLeast
+join_is_least copy ops run formed = merge_is_least copy.ops ops (run_holds run.0 run.1 run.2 copy run.3).sound formed
+
+pub no_escalation : NoEscalation
+no_escalation copy id page right run has other =
+    let b = backing (state_of copy.ops) id page right other has in
+    let held = record_held copy.ops id b.r b.held in
+    (b.r, held.0, held.1, record { in_place = lies_in-right (state_of copy.ops) b.r.parent (source_page b.r page) right b.parent_has; parent_has = b.parent_has })

@@ -1,13 +1,17 @@
 -- What holds of every run of a cluster.
-use Rattle.std.specs.Prelude.{◌≡◌, ℕ, true, ◌++◌, ◌↔◌, List, slice_get, Some, Ok, Err}
-use Rattle.mapdb_facts.specs.State.{Covers, IsSound, SameAtoms}
+use Rattle.std.specs.Prelude.{◌≡◌, ℕ, true, false, ◌&&◌, ◌++◌, List, slice_get, Some}
+use Rattle.mapdb_fpage.specs.declared.right_sets.Right.{Right}
+use Rattle.mapdb_facts.specs.Names.{is_root}
+use Rattle.mapdb_facts.specs.State.{HasAtom, IsSound, Rec, SameAtoms, state_of}
 use Rattle.mapdb_facts.specs.WellFormed.{all_formed}
 use Rattle.mapdb_facts.specs.declared.names.RecordId.{RecordId}
 use Rattle.mapdb_facts.specs.declared.operations.Op.{Op}
-use Rattle.mapdb_replica.specs.Agreement.{LookAlike}
+use Rattle.mapdb_facts.specs.declared.operations.Record.{Record}
+use Rattle.mapdb_rights.specs.Backing.{IsBacked}
+use Rattle.mapdb_rights.specs.Right.{has_right}
+use Rattle.mapdb_replica.specs.Agreement.{LookAlike, knows_all}
+use Rattle.mapdb_replica.specs.Bounds.{IsLeastBound}
 use Rattle.mapdb_replica.specs.Replica.{Log}
-use Rattle.mapdb_replica.specs.Taking.{take_outcome}
-use Rattle.mapdb_replica.specs.declared.faults.TakeFault.TheVariants.{Clash}
 use Rattle.mapdb_cluster.specs.Net.{Net, new_net}
 use Rattle.mapdb_cluster.specs.Run.{Move, after, took}
 
@@ -33,28 +37,29 @@ pub record AreCopiesOfRuns (count other_count : ℕ) (moves other_moves : List M
   pub other_there : slice_get (after (new_net other_count) other_moves).copies other ≡ Some other_copy
   pub same_took : SameAtoms (took (new_net count) moves at) (took (new_net other_count) other_moves other)
 
--- Agreement: copies that took the same hold the same, and look alike at every page of every space
+-- Such copies hold the same, give the same answers for every page of every space, and are told to be the same.
+pub record Agree (copy other : Log) : Type 0 where
+  pub atoms : SameAtoms copy.ops other.ops
+  pub alike : LookAlike copy.ops other.ops
+  pub told : (knows_all copy.ops other.ops && knows_all other.ops copy.ops) ≡ true
+
+-- agreement
 abbrev pub CopiesAgree : Type 0
 CopiesAgree =
     (count other_count : ℕ) (moves other_moves : List Move) (at other : ℕ) (copy other_copy : Log)
-    → AreCopiesOfRuns count other_count moves other_moves at other copy other_copy
-    → SameAtoms copy.ops other_copy.ops × LookAlike copy.ops other_copy.ops
+    → AreCopiesOfRuns count other_count moves other_moves at other copy other_copy → Agree copy other_copy
 
--- The copy of a run, from nothing on.
+-- the copy of a run, from nothing on
 abbrev pub IsCopyOfRun : Log → Type 0
 IsCopyOfRun copy = (count : ℕ) × (moves : List Move) × (at : ℕ) × (slice_get (after (new_net count) moves).copies at ≡ Some copy)
 
--- some sound list has the atoms of both
-abbrev pub AreBounded : List Op → List Op → Type 0
-AreBounded xs ys = (zs : List Op) × IsSound zs × Covers zs xs × Covers zs ys
+-- Least upper bound: a copy of a run that joins well-formed operations becomes the least of both, and they are refused as a clash exactly where
+-- nothing sound has both.
+abbrev pub JoinIsLeast : Type 0
+JoinIsLeast = (copy : Log) (ops : List Op) → IsCopyOfRun copy → all_formed ops ≡ true → IsLeastBound copy.ops ops
 
--- What a copy comes to that takes all that another one holds.
-pub record IsLeastBound (xs ys : List Op) : Type 0 where
-  -- it has the atoms of both, and each list that has the atoms of both has these
-  pub joined : (news : List Op) → take_outcome xs ys ≡ Ok news → Covers (xs ++ news) xs × Covers (xs ++ news) ys × ((zs : List Op) → Covers zs xs → Covers zs ys → Covers zs (xs ++ news))
-  -- a clash is told exactly where no sound list has the atoms of both
-  pub clash : ((id : RecordId) × (take_outcome xs ys ≡ Err (Clash id))) ↔ (AreBounded xs ys → ⊥)
-
--- Least upper bound: the merged copy is the least that covers both, and it is refused as a clash only where none exists.
-abbrev pub MergeIsLeast : Type 0
-MergeIsLeast = (xs ys : List Op) → IsSound xs → all_formed ys ≡ true → IsLeastBound xs ys
+-- No escalation: what a record of a copy has, its parent is there to have at the source page.
+abbrev pub NoEscalation : Type 0
+NoEscalation =
+    (copy : Log) (id : RecordId) (page : ℕ) (right : Right) → IsCopyOfRun copy → has_right (state_of copy.ops) id page right ≡ true → is_root id ≡ false
+    → (r : Record) × (HasAtom copy.ops (Rec r)) × (r.id ≡ id) × IsBacked (state_of copy.ops) r page right

@@ -1,1 +1,26 @@
 //! The theorem about every run of a cluster, each law the contract of a function that does nothing.
+
+ghost use Rattle.mapdb_cluster.specs.Laws.{CopiesAgree, JoinIsLeast, NoEscalation, SchedulesAreExact};
+
+/// In every run, each copy holds exactly the atoms that it held before and those that it took, in whatever order they
+/// came, and however often.
+pub fn schedules_are_exact()
+    ensures { SchedulesAreExact }
+{}
+
+/// Copies that took the same operations, in any order, repeated, or merged in any grouping, give equal rights and are
+/// served from equal frames at every page of every space.
+pub fn copies_agree()
+    ensures { CopiesAgree }
+{}
+
+/// A copy that joins another one becomes the least that has what both held, and is refused as a clash exactly where
+/// nothing sound has both.
+pub fn join_is_least()
+    ensures { JoinIsLeast }
+{}
+
+/// No record of a copy has a right that its parent lacks at the source page.
+pub fn no_escalation()
+    ensures { NoEscalation }
+{}

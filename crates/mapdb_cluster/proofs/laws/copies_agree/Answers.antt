@@ -1,0 +1,5 @@
+use Rattle.mapdb_cluster.proofs.Running.{copies_agree}
+use Rattle.mapdb_cluster.proofs.laws.copies_agree.Goals as goal
+
+pub returns : goal.returns
+returns c = copies_agree

@@ -1,0 +1,5 @@
+use Rattle.mapdb_cluster.proofs.Running.{no_escalation}
+use Rattle.mapdb_cluster.proofs.laws.no_escalation.Goals as goal
+
+pub returns : goal.returns
+returns c = no_escalation
