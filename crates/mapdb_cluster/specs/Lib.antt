@@ -1,3 +1,4 @@
 pub mod Net
 pub mod Run
 pub mod Laws
+pub mod Steps

@@ -4,7 +4,14 @@
 //! wherever they took the same operations; module [`laws`] says so of every run.
 #![tactic(auto)]
 
+mod clusters;
 mod events;
+mod issuing;
 pub mod laws;
+mod messages;
+mod runs;
+mod taking;
 
+pub use clusters::Cluster;
 pub use events::{Event, Refusal, Reply};
+pub use runs::RunFault;

@@ -25,3 +25,4 @@ pub mod NewTotals
 pub mod CutForms
 pub mod CutIssues
 pub mod Bounding
+pub mod CutCopies

@@ -12,6 +12,7 @@ mod giving;
 pub mod laws;
 mod losses;
 mod mapping;
+mod merging;
 mod page_rights;
 mod page_served;
 mod pieces;
@@ -23,6 +24,7 @@ mod unmapping;
 
 pub use commands::Command;
 pub use faults::{GiveFault, IssueFault, MOST_OPERATIONS, TakeFault};
+pub use merging::merge_among;
 pub use replicas::Replica;
 
 #[cfg(test)]

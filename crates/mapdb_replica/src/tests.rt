@@ -7,6 +7,7 @@ use std::process::Abort;
 use std::test::Fail;
 
 mod giving;
+mod rows;
 mod taking;
 mod unmapping;
 

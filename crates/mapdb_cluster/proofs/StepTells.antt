@@ -1,0 +1,173 @@
+-- One event at one copy, told in the net.
+use Rattle.std.proofs.Common.{◌≡◌, ℕ, zero, suc, ◌<◌, Err, Ok, Result, Some, refl, sym, subst, ap, ◌∙◌, inl, inr, List, [], ◌∷◌, length, take}
+use Rattle.std.specs.Prelude.{◌⊎◌, ◌+◌, Bool, true, false, Option, None, count_by, nat_lt, slice_get, slice_set, if◌then◌else◌}
+use Rattle.std.specs.Option.{option_map, option_or}
+use Rattle.mapdb_facts.specs.Adding.{is_new}
+use Rattle.mapdb_facts.specs.WellFormed.{checked}
+use Rattle.mapdb_facts.specs.declared.checking.OpFault.{OpFault}
+use Rattle.mapdb_facts.specs.declared.names.RecordId.{RecordId}
+use Rattle.mapdb_facts.specs.State.{state_of}
+use Rattle.mapdb_facts.specs.declared.operations.Op.{Op}
+use Rattle.mapdb_replica.specs.Commands.{command_outcome}
+use Rattle.mapdb_replica.specs.Replica.{Log, most_operations, news, with_issued}
+use Rattle.mapdb_replica.specs.Taking.{IsRefusedAs, bad_at, first_bad, least_clash, take_outcome, taken_unless, with_taken}
+use Rattle.mapdb_replica.specs.declared.commands.Command.{Command}
+use Rattle.mapdb_replica.specs.declared.commands.Command.TheVariants.{End, Map, Unmap}
+use Rattle.mapdb_replica.specs.declared.faults.IssueFault.{IssueFault}
+use Rattle.mapdb_replica.specs.declared.faults.IssueFault.TheVariants as issue
+use Rattle.mapdb_replica.specs.declared.faults.TakeFault.{TakeFault}
+use Rattle.mapdb_replica.specs.declared.faults.TakeFault.TheVariants as take_fault
+use Rattle.mapdb_cluster.specs.Net.{Done, Net, at_copy, event_done, issue_done, issue_reply, refused, take_done, take_refused, with_copy}
+use Rattle.mapdb_cluster.specs.Steps.{Commands, IsPart, Steps, TakesWith, wanted}
+use Rattle.mapdb_cluster.specs.declared.events.Event.{Event}
+use Rattle.mapdb_cluster.specs.declared.events.Event.TheVariants.{Issue}
+use Rattle.mapdb_cluster.specs.declared.events.Refusal.{Refusal}
+use Rattle.mapdb_cluster.specs.declared.events.Refusal.TheVariants as refusal
+use Rattle.mapdb_cluster.specs.declared.events.Reply.{Reply}
+use Rattle.mapdb_cluster.specs.declared.events.Reply.TheVariants.{Ended, Issued, Refused, Revoked, Sent, Taken}
+
+-- What an event does, told by its reply.
+pub record Tells (done : Option ℕ → Done) (reply : Reply) (new : Net) : Type 0 where
+  pub replied : (done (wanted reply)).reply ≡ reply
+  pub left : (done (wanted reply)).net ≡ new
+  pub part : IsPart (wanted reply) (done None)
+
+-- an event that does so is a step
+pub tells_step : (net : Net) (event : Event) (done : Option ℕ → Done) (reply : Reply) (new : Net) → ((memory : Option ℕ) → event_done net event memory ≡ done memory) → Tells done reply new → Steps net event reply new
+tells_step net event done reply new is tells = record {
+  replied = ap (λ (d : Done). d.reply) (is (wanted reply)) ∙ tells.replied;
+  done = ap (λ (d : Done). d.net) (is (wanted reply)) ∙ tells.left;
+  part = subst (IsPart (wanted reply)) (sym (is None)) tells.part;
+}
+
+same_some : (a b : Log) → Some a ≡ Some b → b ≡ a
+same_some a b e = cc
+
+set_same : (xs : List Log) (i : ℕ) (x : Log) → slice_get xs i ≡ Some x → slice_set xs i x ≡ xs
+set_same [] i x there = refl
+set_same (y ∷ xs) zero x there = ap (λ (z : Log). z ∷ xs) (same_some y x there)
+set_same (y ∷ xs) (suc i) x there = ap (λ (zs : List Log). y ∷ zs) (set_same xs i x there)
+
+-- a copy that is set to what it was changes nothing
+pub with_same : (net : Net) (at : ℕ) (copy new : Log) → slice_get net.copies at ≡ Some copy → new ≡ copy → with_copy net at new ≡ net
+with_same net at copy new there same =
+    let copies : slice_set net.copies at new ≡ net.copies = ap (slice_set net.copies at) same ∙ set_same net.copies at copy there in
+    λ i. record { copies = copies i; messages = net.messages }
+
+-- a refusal, which is no want of memory or is one that is told as such
+refused_part : (memory : Option ℕ) (net : Net) (why : Refusal) → IsPart memory (refused net why)
+refused_part None net why = tt
+refused_part (Some n) net why = tt
+
+pub refused_tells : (net : Net) (why : Refusal) → Tells (λ memory. refused net why) (Refused why) net
+refused_tells net why = record { replied = refl; left = refl; part = refused_part (wanted (Refused why)) net why }
+
+-- A command.
+
+issue_part : (net : Net) (at : ℕ) (copy : Log) (command : Command) (ops : List Op) (n : ℕ) → n < length ops → IsPart (Some n) (issue_done net at copy command None (Ok ops))
+issue_part net at copy (Map sender item receiver window) ops n few = few
+issue_part net at copy (Unmap space page rights flush) ops n few = few
+issue_part net at copy (End space) ops n few = few
+
+issue_full : (command : Command) (ops : List Op) → wanted (issue_reply command ops) ≡ None
+issue_full (Map sender item receiver window) ops = refl
+issue_full (Unmap space page rights flush) ops = refl
+issue_full (End space) ops = refl
+
+module _ (net : Net) (at : ℕ) (copy new : Log) (command : Command) (there : slice_get net.copies at ≡ Some copy) where
+  all_issued : (ops : List Op) (reply : Reply) → reply ≡ issue_reply command ops → new ≡ with_issued copy ops → Tells (λ memory. issue_done net at copy command memory (Ok ops)) reply (with_copy net at new)
+  all_issued ops reply is left =
+      let none : wanted reply ≡ None = ap wanted is ∙ issue_full command ops in
+      record {
+        replied = ap (λ (memory : Option ℕ). (issue_done net at copy command memory (Ok ops)).reply) none ∙ sym is;
+        left = ap (λ (memory : Option ℕ). (issue_done net at copy command memory (Ok ops)).net) none ∙ ap (with_copy net at) (sym left);
+        part = subst (λ (memory : Option ℕ). IsPart memory (issue_done net at copy command None (Ok ops))) (sym none) tt;
+      }
+
+  pub command_tells : (o : Result (List Op) IssueFault) (reply : Reply) → Commands command o reply copy new → Tells (λ memory. issue_done net at copy command memory o) reply (with_copy net at new)
+  command_tells (Err fault) reply is =
+      subst (λ (r : Reply). Tells (λ memory. refused net (refusal.Issue fault)) r (with_copy net at new)) (sym is.0)
+      (subst (λ (n : Net). Tells (λ memory. refused net (refusal.Issue fault)) (Refused (refusal.Issue fault)) n) (sym (with_same net at copy new there is.1)) (refused_tells net (refusal.Issue fault)))
+  command_tells (Ok ops) (Refused why) is =
+      subst (λ (w : Refusal). Tells (λ memory. issue_done net at copy command memory (Ok ops)) (Refused w) (with_copy net at new)) (sym is.1)
+      (record { replied = refl; left = ap (with_copy net at) (sym is.3); part = issue_part net at copy command ops is.0 is.2 })
+  command_tells (Ok ops) (Issued first count) is = all_issued ops (Issued first count) is.0 is.1
+  command_tells (Ok ops) (Revoked count) is = all_issued ops (Revoked count) is.0 is.1
+  command_tells (Ok ops) Ended is = all_issued ops Ended is.0 is.1
+  command_tells (Ok ops) (Sent message count) is = all_issued ops (Sent message count) is.0 is.1
+  command_tells (Ok ops) (Taken count) is = all_issued ops (Taken count) is.0 is.1
+
+-- Taking a batch.
+
+-- no batch is refused for want of memory
+bad_only : (place : ℕ) (ops : List Op) (n : ℕ) → first_bad place ops ≡ Some (take_fault.Memory n) → ⊥
+bad_only place [] n is = none_is is
+  where
+    none_is : None ≡ Some (take_fault.Memory n) → ⊥
+    none_is e = cc
+bad_only place (op ∷ ops) n is = by_check (checked op) is (bad_only (place + 1) ops n)
+  where
+    by_check : (o : Result (Unit {0}) OpFault) → bad_at place o (first_bad (place + 1) ops) ≡ Some (take_fault.Memory n) → (first_bad (place + 1) ops ≡ Some (take_fault.Memory n) → ⊥) → ⊥
+    by_check (Ok u) e later = later e
+    by_check (Err fault) e later = not_bad e
+      where
+        not_bad : Some (take_fault.Bad place fault) ≡ Some (take_fault.Memory n) → ⊥
+        not_bad h = cc
+
+never_memory : (held batch : List Op) (n : ℕ) → take_outcome held batch ≡ Err (take_fault.Memory n) → ⊥
+never_memory held batch n is = by_bad (first_bad 0 batch) refl (least_clash held batch) (nat_lt most_operations (length held + count_by (is_new (state_of held)) batch)) is
+  where
+    same_err : (f g : TakeFault) → (let r : Result (List Op) TakeFault = Err f in r) ≡ Err g → f ≡ g
+    same_err f g e = cc
+
+    not_clash : (id : RecordId) → take_fault.Clash id ≡ take_fault.Memory n → ⊥
+    not_clash id e = cc
+
+    not_full : take_fault.Full ≡ take_fault.Memory n → ⊥
+    not_full e = cc
+
+    not_ok : (ops : List Op) → Ok ops ≡ Err (take_fault.Memory n) → ⊥
+    not_ok ops e = cc
+
+    by_bad : (bad : Option TakeFault) → first_bad 0 batch ≡ bad → (clash : Option RecordId) (full : Bool) → taken_unless (option_or bad (option_or (option_map take_fault.Clash clash) (if full then Some take_fault.Full else None))) (news (state_of held) batch) ≡ Err (take_fault.Memory n) → ⊥
+    by_bad (Some fault) e clash full told = bad_only 0 batch n (e ∙ ap Some (same_err fault (take_fault.Memory n) told))
+    by_bad None e (Some id) full told = not_clash id (same_err (take_fault.Clash id) (take_fault.Memory n) told)
+    by_bad None e None true told = not_full (same_err take_fault.Full (take_fault.Memory n) told)
+    by_bad None e None false told = not_ok (news (state_of held) batch) told
+
+module _ (net : Net) (at : ℕ) (copy new : Log) (batch : List Op) (there : slice_get net.copies at ≡ Some copy) where
+  all_taken : (ops : List Op) (reply : Reply) → reply ≡ Taken (length ops) → new ≡ with_taken copy ops → Tells (λ memory. take_done net at copy batch memory (Ok ops)) reply (with_copy net at new)
+  all_taken ops reply is left =
+      let none : wanted reply ≡ None = ap wanted is in
+      record {
+        replied = ap (λ (memory : Option ℕ). (take_done net at copy batch memory (Ok ops)).reply) none ∙ sym is;
+        left = ap (λ (memory : Option ℕ). (take_done net at copy batch memory (Ok ops)).net) none ∙ ap (with_copy net at) (sym left);
+        part = subst (λ (memory : Option ℕ). IsPart memory (take_done net at copy batch None (Ok ops))) (sym none) tt;
+      }
+
+  -- the fault that is told for a refusal
+  told : (why fault : TakeFault) → ((n : ℕ) → why ≡ take_fault.Memory n → ⊥) → IsRefusedAs why fault → Tells (λ memory. take_refused net memory why) (Refused (refusal.Take fault)) net
+  told (take_fault.Bad place what) fault real is =
+      subst (λ (f : TakeFault). Tells (λ memory. take_refused net memory (take_fault.Bad place what)) (Refused (refusal.Take f)) net) (sym is) (record { replied = refl; left = refl; part = tt })
+  told (take_fault.Clash id) fault real (inl is) =
+      subst (λ (f : TakeFault). Tells (λ memory. take_refused net memory (take_fault.Clash id)) (Refused (refusal.Take f)) net) (sym is) (record { replied = refl; left = refl; part = tt })
+  told (take_fault.Clash id) fault real (inr is) =
+      subst (λ (f : TakeFault). Tells (λ memory. take_refused net memory (take_fault.Clash id)) (Refused (refusal.Take f)) net) (sym is) (record { replied = refl; left = refl; part = tt })
+  told take_fault.Full fault real (inl is) =
+      subst (λ (f : TakeFault). Tells (λ memory. take_refused net memory take_fault.Full) (Refused (refusal.Take f)) net) (sym is) (record { replied = refl; left = refl; part = tt })
+  told take_fault.Full fault real (inr is) =
+      subst (λ (f : TakeFault). Tells (λ memory. take_refused net memory take_fault.Full) (Refused (refusal.Take f)) net) (sym is) (record { replied = refl; left = refl; part = tt })
+  told (take_fault.Memory n) fault real is = absurd (real n refl)
+
+  pub take_tells : (o : Result (List Op) TakeFault) (reply : Reply) → take_outcome copy.ops batch ≡ o → TakesWith batch o reply copy new → Tells (λ memory. take_done net at copy batch memory o) reply (with_copy net at new)
+  take_tells (Err why) reply from is =
+      subst (λ (r : Reply). Tells (λ memory. take_refused net memory why) r (with_copy net at new)) (sym is.2)
+      (subst (λ (n : Net). Tells (λ memory. take_refused net memory why) (Refused (refusal.Take is.0)) n) (sym (with_same net at copy new there is.3)) (told why is.0 (λ n memory. never_memory copy.ops batch n (from ∙ ap (λ (f : TakeFault). Err f) memory)) is.1))
+  take_tells (Ok ops) (Refused why) from is =
+      subst (λ (w : Refusal). Tells (λ memory. take_done net at copy batch memory (Ok ops)) (Refused w) (with_copy net at new)) (sym is.1)
+      (record { replied = refl; left = ap (with_copy net at) (sym is.3); part = is.2 })
+  take_tells (Ok ops) (Issued first count) from is = all_taken ops (Issued first count) is.0 is.1
+  take_tells (Ok ops) (Revoked count) from is = all_taken ops (Revoked count) is.0 is.1
+  take_tells (Ok ops) Ended from is = all_taken ops Ended is.0 is.1
+  take_tells (Ok ops) (Sent message count) from is = all_taken ops (Sent message count) is.0 is.1
+  take_tells (Ok ops) (Taken count) from is = all_taken ops (Taken count) is.0 is.1

@@ -1,0 +1,15 @@
+use Rattle.std.proofs.Common.{◌≡◌, Some, length, refl, subst, arith}
+use Rattle.std.proofs.lemmas.Option.{slice_get_read}
+use Rattle.std.specs.Prelude.{slice_get}
+use Rattle.mapdb_cluster.specs.Net.{Net, with_copy}
+use Rattle.mapdb_cluster.specs.Steps.{Steps}
+use Rattle.mapdb_cluster.specs.declared.events.Event.TheVariants as event
+use Rattle.mapdb_cluster.proofs.StepEvents.{issue_step}
+use Rattle.mapdb_cluster.proofs.clusters.Cluster.issue.Goals as goal
+
+pub returns : goal.returns
+returns c =
+    let net : Net = record { copies = c.self.inside.copies.items; messages = c.self.inside.messages.items } in
+    let there : slice_get net.copies c.args.at ≡ Some c.index_mut.result.now = slice_get_read net.copies (length net.copies) c.args.at c.index_mut.result.now refl (omega (arith, c.if-at-len.false, c.len.ensures)) c.index_mut.ensures.value in
+    subst (λ (n : Net). Steps n (event.Issue c.args.at c.args.command.now) c.issue.result (with_copy net c.args.at c.issue.new.copy)) c.self.view_is
+    (issue_step net c.args.at c.index_mut.result.now c.issue.new.copy c.args.command.now c.issue.result there c.issue.ensures)
