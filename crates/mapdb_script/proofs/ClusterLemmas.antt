@@ -28,10 +28,10 @@ at_processor_there cluster at copy done within is =
     rw (some, slice_get_read cluster.copies (length cluster.copies) at copy refl within is) refl
 
 -- a copy that did not change
-with_copy_same : (cluster : Cluster) (at : ℕ) (copy : Log) → copy ≡ get_or cluster.copies at copy → with_copy cluster at copy ≡ cluster
+pub with_copy_same : (cluster : Cluster) (at : ℕ) (copy : Log) → copy ≡ get_or cluster.copies at copy → with_copy cluster at copy ≡ cluster
 with_copy_same cluster at copy is =
     let same : slice_set cluster.copies at copy ≡ cluster.copies = ap (slice_set cluster.copies at) is ∙ set-get_or cluster.copies at copy in
-    ap (λ (copies : List Log). let c : Cluster = record { copies = copies } in c) same
+    ap (λ (copies : List Log). let c : Cluster = record cluster { copies = copies } in c) same
 
 -- what a refused command does
 refusal_done : (cluster : Cluster) (at : ℕ) (copy new : Log) (text : List Op → List ℕ) (outcome : Log → Result (List Op) IssueFault) (fault : IssueFault)

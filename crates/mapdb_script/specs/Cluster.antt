@@ -1,15 +1,21 @@
 -- What the lines of a script do to a cluster of copies, and what they are answered.
-use Rattle.std.specs.Prelude.{ℕ, ◌/◌, Bool, true, false, ◌||◌, ◌++◌, List, [], ◌∷◌, map, Option, Some, None, Result, Ok, Err, if◌then◌else◌, ◌==◌, nat_lt, slice_get, slice_set, length}
+use Rattle.std.specs.Prelude.{ℕ, ◌/◌, Bool, true, false, ◌&&◌, ◌||◌, ◌++◌, List, [], ◌∷◌, map, Option, Some, None, Result, Ok, Err, if◌then◌else◌, ◌==◌, nat_lt, slice_get, slice_set, length}
 use Rattle.std.specs.List.{range_with_len}
 use Rattle.mapdb_fpage.specs.Bounds.{page_bytes}
 use Rattle.mapdb_facts.specs.declared.operations.Op.{Op}
+use Rattle.mapdb_replica.specs.Agreement.{knows_all}
+use Rattle.mapdb_replica.specs.Giving.{given}
 use Rattle.mapdb_replica.specs.Pairs.{page_rights}
 use Rattle.mapdb_replica.specs.Replica.{Log, empty, with_issued, map_outcome, names_of}
 use Rattle.mapdb_replica.specs.Served.{served}
+use Rattle.mapdb_replica.specs.Taking.{take_outcome, with_taken}
+use Rattle.mapdb_replica.specs.declared.faults.GiveFault.{GiveFault}
 use Rattle.mapdb_replica.specs.declared.faults.IssueFault.{IssueFault}
 use Rattle.mapdb_replica.specs.declared.faults.IssueFault.TheVariants as issue
+use Rattle.mapdb_replica.specs.declared.faults.TakeFault.{TakeFault}
+use Rattle.mapdb_replica.specs.declared.faults.TakeFault.TheVariants as take
 use Rattle.mapdb_script.specs.Limits.{most_processors}
-use Rattle.mapdb_script.specs.Reply.{records_text, rights_text, served_text, refusal_text}
+use Rattle.mapdb_script.specs.Reply.{records_text, rights_text, served_text, message_text, taken_text, same_text, covers_text, refusal_text}
 use Rattle.mapdb_script.specs.declared.fault.LineFault.{LineFault}
 use Rattle.mapdb_script.specs.declared.fault.LineFault.TheVariants as fault
 use Rattle.mapdb_script.specs.declared.lines.Line.{Line}
@@ -17,13 +23,15 @@ use Rattle.mapdb_script.specs.declared.lines.Line.TheVariants as line
 use Rattle.mapdb_script.specs.declared.replies.Refusal.{Refusal}
 use Rattle.mapdb_script.specs.declared.replies.Refusal.TheVariants as refusal
 
--- the copies, one for each processor; none before there is a cluster
+-- The copies, one for each processor, and the messages that were sent, which are kept for good. There are none before there
+-- is a cluster.
 pub record Cluster : Type 0 where
   pub copies : List Log
+  pub messages : List (List Op)
 
 -- no cluster
 abbrev pub no_copies : Cluster
-no_copies = record { copies = [] }
+no_copies = record { copies = []; messages = [] }
 
 -- what a line is answered: nothing, a text, or a refusal
 pub data Reply : Type 0 where
@@ -36,13 +44,17 @@ pub record Done : Type 0 where
   pub reply : Reply
   pub cluster : Cluster
 
--- empty copies, as many as there are processors
+-- empty copies, as many as there are processors, and no message
 abbrev pub new_cluster : ℕ → Cluster
-new_cluster count = record { copies = map empty (range_with_len 0 count) }
+new_cluster count = record { copies = map empty (range_with_len 0 count); messages = [] }
 
 -- the cluster, whose copy of a processor has changed
 abbrev pub with_copy : Cluster → ℕ → Log → Cluster
-with_copy cluster at copy = record { copies = slice_set cluster.copies at copy }
+with_copy cluster at copy = record cluster { copies = slice_set cluster.copies at copy }
+
+-- the cluster, with a message more
+abbrev pub with_message : Cluster → List Op → Cluster
+with_message cluster ops = record cluster { messages = cluster.messages ++ ops ∷ [] }
 
 -- a line that changes nothing
 abbrev pub refused : Cluster → Refusal → Done
@@ -69,6 +81,41 @@ issue_done cluster at copy text (Err f) = refused cluster (refusal_of f)
 abbrev pub names_text : List Op → List ℕ
 names_text ops = records_text (names_of ops)
 
+-- what sending does: the message is kept, or the marks are bad
+abbrev pub send_done : Cluster → Result (List Op) GiveFault → Done
+send_done cluster (Ok ops) = answered (with_message cluster ops) (message_text (length cluster.messages) (length ops))
+send_done cluster (Err f) = refused cluster refusal.BadMark
+
+-- the refusal that a batch's fault is told as; no batch comes to a want of memory
+abbrev pub batch_refusal : TakeFault → Refusal
+batch_refusal (take.Bad place why) = refusal.Bad place why
+batch_refusal (take.Clash id) = refusal.Clash id
+batch_refusal take.Full = refusal.Full
+batch_refusal (take.Memory taken) = refusal.Full
+
+-- what taking a batch does at a processor, by what it comes to at the copy: what is new is taken, or why it is refused
+abbrev pub take_done : Cluster → ℕ → Log → Result (List Op) TakeFault → Done
+take_done cluster at copy (Ok ops) = answered (with_copy cluster at (with_taken copy ops)) (taken_text (length ops))
+take_done cluster at copy (Err f) = refused cluster (batch_refusal f)
+
+-- a copy takes a message, if it was sent
+abbrev pub delivered : Cluster → ℕ → Option (List Op) → Log → Done
+delivered cluster at None copy = refused cluster refusal.NoMessage
+delivered cluster at (Some batch) copy = take_done cluster at copy (take_outcome copy.ops batch)
+
+-- A copy takes all that another one holds, in its order of arrival. Of itself it takes nothing.
+abbrev pub merged : Cluster → ℕ → ℕ → Log → Log → Done
+merged cluster into from copy other =
+    if into == from then answered cluster (taken_text 0) else take_done cluster into copy (take_outcome copy.ops other.ops)
+
+-- whether two copies have equal atoms
+abbrev pub same_answer : Cluster → Log → Log → Done
+same_answer cluster copy other = answered cluster (same_text (knows_all copy.ops other.ops && knows_all other.ops copy.ops))
+
+-- whether a copy's atoms include another's
+abbrev pub covers_answer : Cluster → Log → Log → Done
+covers_answer cluster copy other = answered cluster (covers_text (knows_all copy.ops other.ops))
+
 -- What is done at a processor's copy; a processor that is not there comes before every other refusal.
 abbrev pub at_copy : Cluster → Option Log → (Log → Done) → Done
 at_copy cluster None done = refused cluster refusal.NoProcessor
@@ -78,6 +125,10 @@ at_copy cluster (Some copy) done = done copy
 abbrev pub at_processor : Cluster → ℕ → (Log → Done) → Result Done LineFault
 at_processor cluster at done =
     if nat_lt 0 (length cluster.copies) then Ok (at_copy cluster (slice_get cluster.copies at) done) else Err fault.NoProcessors
+
+-- what is done at two processors, of which the first is looked at first
+abbrev pub at_processors : Cluster → ℕ → ℕ → (Log → Log → Done) → Result Done LineFault
+at_processors cluster at other done = at_processor cluster at (λ copy. at_copy cluster (slice_get cluster.copies other) (done copy))
 
 -- The first command makes the cluster.
 abbrev pub begin : List Log → ℕ → Result Done LineFault
@@ -94,6 +145,11 @@ done_by cluster (line.Rights at space address) =
     at_processor cluster at (λ copy. answered cluster (rights_text (page_rights copy.ops space (address / page_bytes))))
 done_by cluster (line.Served at space address) =
     at_processor cluster at (λ copy. answered cluster (served_text (served copy.ops space (address / page_bytes))))
+done_by cluster (line.Send at first end) = at_processor cluster at (λ copy. send_done cluster (given copy.ops first end))
+done_by cluster (line.Deliver message at) = at_processor cluster at (delivered cluster at (slice_get cluster.messages message))
+done_by cluster (line.Merge into from) = at_processors cluster into from (merged cluster into from)
+done_by cluster (line.Same at other) = at_processors cluster at other (same_answer cluster)
+done_by cluster (line.Covers at other) = at_processors cluster at other (covers_answer cluster)
 
 -- a line of the output
 abbrev pub reply_line : List ℕ → List ℕ

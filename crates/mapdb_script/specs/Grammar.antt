@@ -3,8 +3,8 @@ use Rattle.std.specs.Prelude.{ℕ, List, [], ◌∷◌, Bool, false, Option, Som
 use Rattle.std.specs.Str.{bytes_eq}
 use Rattle.mapdb_facts.specs.declared.names.Space.{Space}
 use Rattle.mapdb_script.specs.Lines.{without_return}
-use Rattle.mapdb_script.specs.Words.{words_of, one_of, three_of, six_of}
-use Rattle.mapdb_script.specs.Spellings.{◌>>=◌, or_fault, processor_at, space_at, address_at, base_at, fpage_at, send_at}
+use Rattle.mapdb_script.specs.Words.{words_of, one_of, two_of, three_of, six_of}
+use Rattle.mapdb_script.specs.Spellings.{◌>>=◌, or_fault, processor_at, mark_at, space_at, address_at, base_at, fpage_at, send_at}
 use Rattle.mapdb_script.specs.declared.fault.LineFault.{LineFault}
 use Rattle.mapdb_script.specs.declared.fault.LineFault.TheVariants as fault
 use Rattle.mapdb_script.specs.declared.grammar.Keyword.{Keyword}
@@ -40,6 +40,31 @@ page_query_at words = do
   address ← address_at word.2
   Ok (processor, space, address)
 
+-- send P I J
+unfoldable pub sending_at : List (List ℕ) → Result Line LineFault
+sending_at words = do
+  word ← or_fault (three_of words) fault.Words
+  processor ← processor_at word.0
+  first ← mark_at word.1
+  end ← mark_at word.2
+  Ok (line.Send processor first end)
+
+-- deliver M P
+unfoldable pub delivery_at : List (List ℕ) → Result Line LineFault
+delivery_at words = do
+  word ← or_fault (two_of words) fault.Words
+  message ← mark_at word.0
+  processor ← processor_at word.1
+  Ok (line.Deliver message processor)
+
+-- P Q
+unfoldable pub pair_at : List (List ℕ) → Result (ℕ × ℕ) LineFault
+pair_at words = do
+  word ← or_fault (two_of words) fault.Words
+  processor ← processor_at word.0
+  other ← processor_at word.1
+  Ok (processor, other)
+
 -- the first word of a line
 abbrev pub keyword_of : List ℕ → Option Keyword
 keyword_of word =
@@ -47,7 +72,12 @@ keyword_of word =
     else (if bytes_eq word (codes "map") then Some keyword.Map
     else (if bytes_eq word (codes "rights") then Some keyword.Rights
     else (if bytes_eq word (codes "served") then Some keyword.Served
-    else None)))
+    else (if bytes_eq word (codes "send") then Some keyword.Send
+    else (if bytes_eq word (codes "deliver") then Some keyword.Deliver
+    else (if bytes_eq word (codes "merge") then Some keyword.Merge
+    else (if bytes_eq word (codes "same") then Some keyword.Same
+    else (if bytes_eq word (codes "covers") then Some keyword.Covers
+    else None))))))))
 
 -- what a line with this first word says, by the words behind it
 unfoldable pub line_at : Option Keyword → List (List ℕ) → Result Line LineFault
@@ -56,6 +86,11 @@ line_at (Some keyword.Processors) words = processors_at words
 line_at (Some keyword.Map) words = map_at words
 line_at (Some keyword.Rights) words = page_query_at words >>= λ query. Ok (line.Rights query.0 query.1 query.2)
 line_at (Some keyword.Served) words = page_query_at words >>= λ query. Ok (line.Served query.0 query.1 query.2)
+line_at (Some keyword.Send) words = sending_at words
+line_at (Some keyword.Deliver) words = delivery_at words
+line_at (Some keyword.Merge) words = pair_at words >>= λ pair. Ok (line.Merge pair.0 pair.1)
+line_at (Some keyword.Same) words = pair_at words >>= λ pair. Ok (line.Same pair.0 pair.1)
+line_at (Some keyword.Covers) words = pair_at words >>= λ pair. Ok (line.Covers pair.0 pair.1)
 
 -- The first word begins with #.
 abbrev pub is_comment : List ℕ → Bool

@@ -1,8 +1,10 @@
 -- The texts of replies, without the end of their line.
-use Rattle.std.specs.Prelude.{ℕ, ◌-◌, List, [], ◌∷◌, ◌++◌, false, length, Option, Some, None, replicate, codes, decimal, flat_map}
+use Rattle.std.specs.Prelude.{ℕ, ◌-◌, List, [], ◌∷◌, ◌++◌, Bool, true, false, length, Option, Some, None, replicate, codes, decimal, flat_map}
 use Rattle.std.specs.Fmt.{digits}
 use Rattle.mapdb_fpage.specs.RightSets.{text_of}
 use Rattle.mapdb_fpage.specs.declared.right_sets.Rights.{Rights}
+use Rattle.mapdb_facts.specs.declared.checking.OpFault.{OpFault}
+use Rattle.mapdb_facts.specs.declared.checking.OpFault.TheVariants as op
 use Rattle.mapdb_facts.specs.declared.names.RecordId.{RecordId}
 use Rattle.mapdb_script.specs.declared.replies.Refusal.{Refusal}
 use Rattle.mapdb_script.specs.declared.replies.Refusal.TheVariants as refusal
@@ -38,10 +40,41 @@ abbrev pub served_text : Option (ℕ × Rights) → List ℕ
 served_text None = codes "served none"
 served_text (Some mapping) = codes "served " ++ mapping_text mapping.0 mapping.1
 
+-- the number of a message, and how many operations it has
+abbrev pub message_text : ℕ → ℕ → List ℕ
+message_text number count = codes "message " ++ (decimal number ++ (codes " " ++ decimal count))
+
+-- how many operations were new
+abbrev pub taken_text : ℕ → List ℕ
+taken_text count = codes "taken " ++ decimal count
+
+-- whether two copies have equal atoms
+abbrev pub same_text : Bool → List ℕ
+same_text true = codes "same yes"
+same_text false = codes "same no"
+
+-- whether one copy's atoms include another's
+abbrev pub covers_text : Bool → List ℕ
+covers_text true = codes "covers yes"
+covers_text false = codes "covers no"
+
+-- why an operation is not well-formed
+abbrev pub bad_name : OpFault → List ℕ
+bad_name op.BadNumber = codes "bad-number"
+bad_name op.BadProcessor = codes "bad-processor"
+bad_name op.ParentNotBefore = codes "parent-not-before"
+bad_name op.SourceUnaligned = codes "source-unaligned"
+bad_name op.RootSpace = codes "root-space"
+bad_name op.PageOutOfSpace = codes "page-out-of-space"
+
 -- why a line does nothing
 abbrev pub refusal_text : Refusal → List ℕ
 refusal_text refusal.NoProcessor = codes "refused no-processor"
+refusal_text refusal.NoMessage = codes "refused no-message"
+refusal_text refusal.BadMark = codes "refused bad-mark"
 refusal_text (refusal.SpaceEnded space) = codes "refused space-ended " ++ decimal space.number
 refusal_text refusal.RootSpace = codes "refused root-space"
 refusal_text refusal.NumbersSpent = codes "refused numbers-spent"
 refusal_text refusal.Full = codes "refused full"
+refusal_text (refusal.Bad place why) = codes "refused bad " ++ (decimal place ++ (codes " " ++ bad_name why))
+refusal_text (refusal.Clash id) = codes "refused clash " ++ name_text id

@@ -32,6 +32,10 @@ decimal_at limit word = or_fault (number_of 10 decimal_digits limit word) fault.
 abbrev pub processor_at : List ℕ → Result ℕ LineFault
 processor_at word = decimal_at 255 word
 
+-- a mark in a list of operations, or the number of a message
+abbrev pub mark_at : List ℕ → Result ℕ LineFault
+mark_at word = decimal_at (2 ^ 32 - 1) word
+
 -- a space
 abbrev pub space_at : List ℕ → Result Space LineFault
 space_at word = do

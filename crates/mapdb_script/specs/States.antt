@@ -1,9 +1,14 @@
 -- What the engine holds, and what its calls answer.
-use Rattle.std.specs.Prelude.{◌≡◌, ℕ, List, Result, Ok, Err, String, string_bytes}
-use Rattle.mapdb_script.specs.Cluster.{Cluster, Reply, Done, Silent, Answered, Refused, refusal_of}
+use Rattle.std.specs.Prelude.{◌≡◌, ℕ, List, Some, Result, Ok, Err, String, string_bytes, slice_get, slice_set}
+use Rattle.mapdb_script.specs.Cluster.{Cluster, Reply, Done, Silent, Answered, Refused, refusal_of, batch_refusal}
+use Rattle.mapdb_script.specs.Reply.{taken_text}
 use Rattle.mapdb_script.specs.Script.{State}
+use Rattle.mapdb_replica.specs.Replica.{Log}
+use Rattle.mapdb_replica.specs.Taking.{Takes, take_outcome}
 use Rattle.mapdb_replica.specs.declared.faults.IssueFault.{IssueFault}
 use Rattle.mapdb_replica.specs.declared.faults.IssueFault.TheVariants as issue
+use Rattle.mapdb_replica.specs.declared.faults.TakeFault.{TakeFault}
+use Rattle.mapdb_replica.specs.declared.faults.TakeFault.TheVariants as take
 use Rattle.mapdb_script.specs.declared.cluster.Cluster.{Cluster as Copies}
 use Rattle.mapdb_script.specs.declared.cluster.Reply.{Reply as Answer}
 use Rattle.mapdb_script.specs.declared.cluster.Reply.TheVariants as answer
@@ -12,9 +17,9 @@ use Rattle.mapdb_script.specs.declared.fault.LineFault.{LineFault}
 use Rattle.mapdb_script.specs.declared.turn_fault.TurnFault.{TurnFault}
 use Rattle.mapdb_script.specs.declared.turn_fault.TurnFault.TheVariants as turn
 
--- the cluster of copies
+-- the cluster of copies, with its messages
 abbrev pub cluster_of : Copies → Cluster
-cluster_of c = record { copies = c.copies.items }
+cluster_of c = record { copies = c.copies.items; messages = c.messages.items }
 
 -- the state of a script
 abbrev pub state_of : Engine → State
@@ -30,6 +35,27 @@ reply_of (answer.Refused why) = Refused why
 abbrev pub IsTold : IssueFault → Result Answer TurnFault → Type 0
 IsTold (issue.Memory issued) result = result ≡ Err turn.Memory
 IsTold fault result = result ≡ Ok (answer.Refused (refusal_of fault))
+
+-- a text is answered, unless memory ran out
+abbrev pub Answers : List ℕ → Result Answer TurnFault → Type 0
+Answers text (Ok reply) = reply_of reply ≡ Answered text
+Answers text (Err f) = f ≡ turn.Memory
+
+-- What a copy answers to a batch, and how that is told: how many were new, or a refusal; want of memory ends the script.
+abbrev pub IsTakeTold : Result ℕ TakeFault → Result Answer TurnFault → Type 0
+IsTakeTold (Ok count) result = Answers (taken_text count) result
+IsTakeTold (Err (take.Memory taken)) result = result ≡ Err turn.Memory
+IsTakeTold (Err fault) result = result ≡ Ok (answer.Refused (batch_refusal fault))
+
+-- One of the copies took all that another one holds, and the others stayed.
+pub record Merges (copies : List Log) (into from : ℕ) (taken : Result ℕ TakeFault) (new : List Log) : Type 0 where
+  pub one : Log
+  pub other : Log
+  pub after : Log
+  pub there : slice_get copies into ≡ Some one
+  pub other_there : slice_get copies from ≡ Some other
+  pub takes : Takes other.ops (take_outcome one.ops other.ops) taken one after
+  pub kept : new ≡ slice_set copies into after
 
 -- A line did what it is to do, or has the fault that it is to have, unless memory ran out.
 abbrev pub Does : Result Answer TurnFault → Cluster → Result Done LineFault → Type 0

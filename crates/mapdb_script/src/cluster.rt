@@ -7,11 +7,12 @@ ghost use Rattle.mapdb_replica.specs.Replica.{empty};
 use crate::fault::LineFault;
 use crate::limits::MOST_PROCESSORS;
 use crate::lines::Line;
-use crate::replies::{Refusal, records_text, rights_text, served_text};
+use crate::messages::Message;
+use crate::replies::{Refusal, records_text, rights_text, served_text, taken_text};
 use crate::turn_fault::TurnFault;
 use mapdb_facts::Space;
 use mapdb_fpage::{Fpage, MapItem, PAGE_BYTES};
-use mapdb_replica::{IssueFault, Replica};
+use mapdb_replica::{IssueFault, Replica, TakeFault};
 use std::alloc::{AllocError, Global};
 
 /// What a line is answered.
@@ -28,7 +29,7 @@ pub enum Reply {
 impl Reply {
     ghost use Rattle.std.specs.Prelude.{◌≡◌, IfOk, string_bytes};
     ghost use Rattle.mapdb_script.specs.Cluster.{reply_text, is_refusal};
-    ghost use Rattle.mapdb_script.specs.States.{IsTold, reply_of};
+    ghost use Rattle.mapdb_script.specs.States.{IsTakeTold, IsTold, reply_of};
 
     /// What a copy that issued nothing is answered; want of memory is no reply.
     fn refused(fault: IssueFault) -> Result<Reply, TurnFault>
@@ -40,6 +41,22 @@ impl Reply {
             IssueFault::NumbersSpent => Ok(Reply::Refused(Refusal::NumbersSpent)),
             IssueFault::Full => Ok(Reply::Refused(Refusal::Full)),
             IssueFault::Memory { .. } => Err(TurnFault::Memory),
+        }
+    }
+
+    /// What a copy that was given a batch is answered; want of memory is no reply.
+    pub(crate) fn taken(alloc: Global, taken: Result<u32, TakeFault>) -> Result<Reply, TurnFault>
+        ensures { IsTakeTold taken result }
+    {
+        match taken {
+            Ok(count) => {
+                let text = taken_text(alloc, count)?;
+                Ok(Reply::Answered(text))
+            }
+            Err(TakeFault::Bad(place, why)) => Ok(Reply::Refused(Refusal::Bad(place, why))),
+            Err(TakeFault::Clash(id)) => Ok(Reply::Refused(Refusal::Clash(id))),
+            Err(TakeFault::Full) => Ok(Reply::Refused(Refusal::Full)),
+            Err(TakeFault::Memory { .. }) => Err(TurnFault::Memory),
         }
     }
 
@@ -81,11 +98,13 @@ fn new_copies(alloc: Global, count: u8) -> Result<Vec<Replica>, AllocError>
     Ok(copies)
 }
 
-/// The copies of a script, one for each processor; none before there is a cluster.
+/// The copies of a script, one for each processor, and the messages that were sent; none before there is a cluster.
 #[derive(Drop)]
 pub struct Cluster {
-    alloc: Global,
-    copies: Vec<Replica>,
+    pub(crate) alloc: Global,
+    pub(crate) copies: Vec<Replica>,
+    /// Messages are kept for good.
+    pub(crate) messages: Vec<Message>,
 }
 
 impl Cluster {
@@ -104,6 +123,7 @@ impl Cluster {
         Cluster {
             alloc,
             copies: Vec::new(alloc),
+            messages: Vec::new(alloc),
         }
     }
 
@@ -116,11 +136,12 @@ impl Cluster {
             return Err(TurnFault::Line(LineFault::ProcessorsAgain));
         }
         self.copies = new_copies(self.alloc, count)?;
+        self.messages = Vec::new(self.alloc);
         Ok(Reply::Silent)
     }
 
     /// The place of a processor's copy, if the cluster has it.
-    fn place(&self, at: u8) -> Result<Option<usize>, LineFault>
+    pub(crate) fn place(&self, at: u8) -> Result<Option<usize>, LineFault>
         ensures there { IfOk result (λ found. IfSome found (λ i. (i ≡ at) × (i < length (cluster_of self.now).copies))) }
         ensures none { length (cluster_of self.now).copies ≡ 0 → result ≡ Err LineFault.NoProcessors }
         ensures some { 0 < length (cluster_of self.now).copies
@@ -203,6 +224,11 @@ impl Cluster {
             }
             Line::Rights(at, space, address) => self.rights(at, space, address),
             Line::Served(at, space, address) => self.served(at, space, address),
+            Line::Send(at, first, end) => self.send(at, first, end),
+            Line::Deliver(message, at) => self.deliver(message, at),
+            Line::Merge(into, from) => self.merge(into, from),
+            Line::Same(at, other) => self.same(at, other),
+            Line::Covers(at, other) => self.covers(at, other),
         }
     }
 }

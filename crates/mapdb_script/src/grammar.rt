@@ -3,12 +3,12 @@
 ghost use Rattle.std.specs.Prelude.{◌≡◌};
 ghost use Rattle.mapdb_script.specs.Lines.{without_return};
 ghost use Rattle.mapdb_script.specs.Words.{words_of};
-ghost use Rattle.mapdb_script.specs.Grammar.{processors_at, map_at, page_query_at, keyword_of, is_comment, line_at, said_by};
+ghost use Rattle.mapdb_script.specs.Grammar.{processors_at, map_at, page_query_at, sending_at, delivery_at, pair_at, keyword_of, is_comment, line_at, said_by};
 
 use crate::fault::LineFault;
 use crate::lines::Line;
-use crate::spellings::{address, base, fpage, processor, send, space};
-use crate::words::{next_word, one_word, six_words, three_words};
+use crate::spellings::{address, base, fpage, mark, processor, send, space};
+use crate::words::{next_word, one_word, six_words, three_words, two_words};
 use mapdb_facts::Space;
 use mapdb_fpage::MapItem;
 
@@ -23,6 +23,16 @@ enum Keyword {
     Rights,
     /// `served`.
     Served,
+    /// `send`.
+    Send,
+    /// `deliver`.
+    Deliver,
+    /// `merge`.
+    Merge,
+    /// `same`.
+    Same,
+    /// `covers`.
+    Covers,
 }
 
 /// A line without the byte 0D at its end.
@@ -83,6 +93,46 @@ fn page_query(words: &[u8]) -> Result<(u8, Space, u32), LineFault>
     Ok((at, asked, byte))
 }
 
+/// `send P I J`.
+#[tactic(auto, unfolding(crate::specs::Grammar::sending_at))]
+fn sending_line(words: &[u8]) -> Result<Line, LineFault>
+    ensures { result ≡ sending_at (words_of words.now) }
+{
+    let Some((at, first, end)) = three_words(words) else {
+        return Err(LineFault::Words);
+    };
+    let at = processor(at)?;
+    let first = mark(first)?;
+    let end = mark(end)?;
+    Ok(Line::Send(at, first, end))
+}
+
+/// `deliver M P`.
+#[tactic(auto, unfolding(crate::specs::Grammar::delivery_at))]
+fn delivery_line(words: &[u8]) -> Result<Line, LineFault>
+    ensures { result ≡ delivery_at (words_of words.now) }
+{
+    let Some((message, at)) = two_words(words) else {
+        return Err(LineFault::Words);
+    };
+    let message = mark(message)?;
+    let at = processor(at)?;
+    Ok(Line::Deliver(message, at))
+}
+
+/// `P Q`, two processors.
+#[tactic(auto, unfolding(crate::specs::Grammar::pair_at))]
+fn processor_pair(words: &[u8]) -> Result<(u8, u8), LineFault>
+    ensures { result ≡ pair_at (words_of words.now) }
+{
+    let Some((at, other)) = two_words(words) else {
+        return Err(LineFault::Words);
+    };
+    let at = processor(at)?;
+    let other = processor(other)?;
+    Ok((at, other))
+}
+
 /// What the first word says the line does.
 fn keyword_of(word: &[u8]) -> Option<Keyword>
     ensures { result ≡ keyword_of word.now }
@@ -95,6 +145,16 @@ fn keyword_of(word: &[u8]) -> Option<Keyword>
         Some(Keyword::Rights)
     } else if word == b"served".as_slice() {
         Some(Keyword::Served)
+    } else if word == b"send".as_slice() {
+        Some(Keyword::Send)
+    } else if word == b"deliver".as_slice() {
+        Some(Keyword::Deliver)
+    } else if word == b"merge".as_slice() {
+        Some(Keyword::Merge)
+    } else if word == b"same".as_slice() {
+        Some(Keyword::Same)
+    } else if word == b"covers".as_slice() {
+        Some(Keyword::Covers)
     } else {
         None
     }
@@ -126,6 +186,20 @@ fn line_of(keyword: Option<Keyword>, words: &[u8]) -> Result<Line, LineFault>
         Some(Keyword::Served) => {
             let (at, asked, byte) = page_query(words)?;
             Ok(Line::Served(at, asked, byte))
+        }
+        Some(Keyword::Send) => sending_line(words),
+        Some(Keyword::Deliver) => delivery_line(words),
+        Some(Keyword::Merge) => {
+            let (into, from) = processor_pair(words)?;
+            Ok(Line::Merge(into, from))
+        }
+        Some(Keyword::Same) => {
+            let (at, other) = processor_pair(words)?;
+            Ok(Line::Same(at, other))
+        }
+        Some(Keyword::Covers) => {
+            let (at, other) = processor_pair(words)?;
+            Ok(Line::Covers(at, other))
         }
     }
 }

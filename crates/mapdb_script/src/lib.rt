@@ -6,10 +6,12 @@
 
 mod cluster;
 mod engine;
+mod exchange;
 mod fault;
 mod grammar;
 mod limits;
 mod lines;
+mod messages;
 mod number;
 mod reading;
 mod replies;

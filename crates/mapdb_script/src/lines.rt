@@ -15,4 +15,15 @@ pub enum Line {
     Rights(u8, Space, u32),
     /// `served P S ADDR`: at processor P, the frame that space S is served from at a byte address.
     Served(u8, Space, u32),
+    /// `send P I J`: a message with the operations of processor P's copy, in order of arrival, from the mark I on and up
+    /// to before the mark J.
+    Send(u8, u32, u32),
+    /// `deliver M P`: message M comes to processor P, whose copy takes its operations.
+    Deliver(u32, u8),
+    /// `merge P Q`: processor P's copy takes all that processor Q's copy holds, in its order of arrival.
+    Merge(u8, u8),
+    /// `same P Q`: whether the copies of two processors hold the same.
+    Same(u8, u8),
+    /// `covers P Q`: whether processor P's copy holds all that processor Q's copy holds.
+    Covers(u8, u8),
 }

@@ -1,9 +1,9 @@
 //! The texts of replies, without the end of their line.
 
 ghost use Rattle.std.specs.Prelude.{◌≡◌, ◌∷◌, ◌++◌, IfOk, string_bytes};
-ghost use Rattle.mapdb_script.specs.Reply.{name_text, frame_text, mapping_text, records_text, rights_text, served_text};
+ghost use Rattle.mapdb_script.specs.Reply.{name_text, frame_text, mapping_text, records_text, rights_text, served_text, message_text, taken_text, same_text, covers_text, bad_name};
 
-use mapdb_facts::{RecordId, Space};
+use mapdb_facts::{OpFault, RecordId, Space};
 use mapdb_fpage::Rights;
 use std::alloc::{AllocError, Global};
 
@@ -12,6 +12,10 @@ use std::alloc::{AllocError, Global};
 pub enum Refusal {
     /// The cluster has no such processor.
     NoProcessor,
+    /// No message of this number was sent.
+    NoMessage,
+    /// Marks that fall, or that lie behind the end of the list.
+    BadMark,
     /// The space is over.
     SpaceEnded(Space),
     /// The first space takes no record.
@@ -20,6 +24,10 @@ pub enum Refusal {
     NumbersSpent,
     /// The copy would hold more operations than it may.
     Full,
+    /// The operation at this place of a batch is not well-formed.
+    Bad(usize, OpFault),
+    /// Two different records have this name.
+    Clash(RecordId),
 }
 
 /// The name of a record: its number, a point, and its processor.
@@ -94,6 +102,48 @@ pub fn served_text(alloc: Global, mapping: Option<(u32, Rights)>) -> Result<Stri
     format!(in alloc; "served {text}")
 }
 
+/// `message`, its number, and how many operations it has.
+pub fn message_text(alloc: Global, number: usize, count: usize) -> Result<String, AllocError>
+    ensures { IfOk result (λ text. string_bytes text ≡ message_text number count) }
+{
+    format!(in alloc; "message {number} {count}")
+}
+
+/// `taken` and how many operations were new.
+pub fn taken_text(alloc: Global, count: u32) -> Result<String, AllocError>
+    ensures { IfOk result (λ text. string_bytes text ≡ taken_text count) }
+{
+    format!(in alloc; "taken {count}")
+}
+
+/// `same yes` or `same no`.
+pub fn same_text(alloc: Global, is_same: bool) -> Result<String, AllocError>
+    ensures { IfOk result (λ text. string_bytes text ≡ same_text is_same) }
+{
+    String::from_str(alloc, if is_same { "same yes" } else { "same no" })
+}
+
+/// `covers yes` or `covers no`.
+pub fn covers_text(alloc: Global, covers: bool) -> Result<String, AllocError>
+    ensures { IfOk result (λ text. string_bytes text ≡ covers_text covers) }
+{
+    String::from_str(alloc, if covers { "covers yes" } else { "covers no" })
+}
+
+/// The name that a fault of an operation has in the output.
+fn bad_name(fault: OpFault) -> &'static str
+    ensures { result.now ≡ bad_name fault }
+{
+    match fault {
+        OpFault::BadNumber => "bad-number",
+        OpFault::BadProcessor => "bad-processor",
+        OpFault::ParentNotBefore => "parent-not-before",
+        OpFault::SourceUnaligned => "source-unaligned",
+        OpFault::RootSpace => "root-space",
+        OpFault::PageOutOfSpace => "page-out-of-space",
+    }
+}
+
 impl Refusal {
     ghost use Rattle.std.specs.Prelude.{◌≡◌, IfOk, string_bytes};
     ghost use Rattle.mapdb_script.specs.Reply.{refusal_text};
@@ -104,6 +154,8 @@ impl Refusal {
     {
         match self {
             Refusal::NoProcessor => String::from_str(alloc, "refused no-processor"),
+            Refusal::NoMessage => String::from_str(alloc, "refused no-message"),
+            Refusal::BadMark => String::from_str(alloc, "refused bad-mark"),
             Refusal::SpaceEnded(space) => {
                 let number = space.number;
                 format!(in alloc; "refused space-ended {number}")
@@ -111,6 +163,14 @@ impl Refusal {
             Refusal::RootSpace => String::from_str(alloc, "refused root-space"),
             Refusal::NumbersSpent => String::from_str(alloc, "refused numbers-spent"),
             Refusal::Full => String::from_str(alloc, "refused full"),
+            Refusal::Bad(place, why) => {
+                let name = bad_name(why);
+                format!(in alloc; "refused bad {place} {name}")
+            }
+            Refusal::Clash(id) => {
+                let name = name_text(alloc, id)?;
+                format!(in alloc; "refused clash {name}")
+            }
         }
     }
 }

@@ -1,7 +1,7 @@
 //! How the words of a line are spelled.
 
 ghost use Rattle.std.specs.Prelude.{◌≡◌};
-ghost use Rattle.mapdb_script.specs.Spellings.{decimal_at, processor_at, space_at, address_at, base_at, letter_at, rights_at, place_by, fpage_at, send_at};
+ghost use Rattle.mapdb_script.specs.Spellings.{decimal_at, processor_at, mark_at, space_at, address_at, base_at, letter_at, rights_at, place_by, fpage_at, send_at};
 
 use crate::fault::LineFault;
 use crate::limits::{ADDRESS_DIGITS, BASE_DIGITS, DECIMAL_DIGITS, PLACE_DIGITS};
@@ -16,6 +16,16 @@ pub fn processor(word: &[u8]) -> Result<u8, LineFault>
 {
     match number(10, DECIMAL_DIGITS, u8::MAX as u64, word) {
         Some(n) => Ok(n as u8),
+        None => Err(LineFault::Number),
+    }
+}
+
+/// A mark in a list of operations, or the number of a message: a decimal number of at most 4294967295.
+pub fn mark(word: &[u8]) -> Result<u32, LineFault>
+    ensures { result ≡ mark_at word.now }
+{
+    match number(10, DECIMAL_DIGITS, u32::MAX as u64, word) {
+        Some(n) => Ok(n as u32),
         None => Err(LineFault::Number),
     }
 }

@@ -1,0 +1,181 @@
+-- What copies take from messages and from each other, and how that is told.
+use Rattle.std.proofs.Common.{◌≡◌, ◌≢◌, ℕ, ◌<◌, ◌⊎◌, inl, inr, Bool, true, false, ◌&&◌, cond, eq-eqb, List, [], ◌∷◌, ◌++◌, length, get_or, length-append, refl, sym, ap, ◌∙◌, arith}
+use Rattle.std.proofs.Math.ListN.{get_or-append, length-set}
+use Rattle.std.proofs.Math.Seq.{get_or-append_seam, set-append_seam}
+use Rattle.std.proofs.lemmas.List.{set-append_left}
+use Rattle.std.proofs.lemmas.Bool.{lt-ltb, ltb-false}
+use Rattle.std.proofs.lemmas.Bool.Decides.{nat_tests}
+use Rattle.std.proofs.lemmas.Option.{get_or_from_slice_get, slice_get_cases, slice_get_past, slice_get_read, slice_get_within}
+use Rattle.std.specs.Prelude.{Option, Some, None, Result, Ok, Err, nat_lt, ◌==◌, slice_get, slice_set}
+use Rattle.mapdb_facts.specs.declared.operations.Op.{Op}
+use Rattle.mapdb_replica.specs.Replica.{Log}
+use Rattle.mapdb_replica.specs.Taking.{IsRefusedAs, Takes, take_outcome}
+use Rattle.mapdb_replica.specs.declared.faults.TakeFault.{TakeFault}
+use Rattle.mapdb_replica.specs.declared.faults.TakeFault.TheVariants as take
+use Rattle.mapdb_script.specs.Cluster.{Cluster, Done, answered, at_copy, at_processor, at_processors, batch_refusal, delivered, merged, refused, take_done, with_copy}
+use Rattle.mapdb_script.specs.Reply.{taken_text}
+use Rattle.mapdb_script.specs.States.{Answers, Does, IsTakeTold, Merges}
+use Rattle.mapdb_script.specs.declared.cluster.Reply.{Reply as Answer}
+use Rattle.mapdb_script.specs.declared.fault.LineFault.{LineFault}
+use Rattle.mapdb_script.specs.declared.replies.Refusal.TheVariants as refusal
+use Rattle.mapdb_script.specs.declared.turn_fault.TurnFault.{TurnFault}
+use Rattle.mapdb_script.proofs.ClusterLemmas.{at_processor_there, with_copy_same}
+
+-- what is done at two processors that are there
+pub at_processors_there : (cluster : Cluster) (at other : ℕ) (copy more : Log) (done : Log → Log → Done)
+    → at < length cluster.copies → other < length cluster.copies → copy ≡ get_or cluster.copies at copy → more ≡ get_or cluster.copies other more
+    → at_processors cluster at other done ≡ Ok (done copy more)
+at_processors_there cluster at other copy more done within other_within is other_is =
+    at_processor_there cluster at copy (λ (c : Log). at_copy cluster (slice_get cluster.copies other) (done c)) within is
+    ∙ rw (slice_get_read cluster.copies (length cluster.copies) other more refl other_within other_is) refl
+
+-- a refusal is told as it is, or as a want of memory
+refused_as : (refusal fault : TakeFault) → IsRefusedAs refusal fault → (fault ≡ refusal) ⊎ (fault ≡ take.Memory 0)
+refused_as (take.Bad place why) fault h = inl h
+refused_as (take.Clash id) fault h = h
+refused_as take.Full fault h = h
+refused_as (take.Memory taken) fault h = h
+
+-- a refusal that is told as it is
+refusal_told : (cluster : Cluster) (refusal : TakeFault) (result : Result Answer TurnFault) → IsTakeTold (Err refusal) result
+    → Does result cluster (Ok (refused cluster (batch_refusal refusal)))
+refusal_told cluster (take.Bad place why) result told = rw told refl
+refusal_told cluster (take.Clash id) result told = rw told refl
+refusal_told cluster take.Full result told = rw told refl
+refusal_told cluster (take.Memory taken) result told = rw told tt
+
+refused_told : (cluster : Cluster) (refusal fault : TakeFault) (result : Result Answer TurnFault) → (fault ≡ refusal) ⊎ (fault ≡ take.Memory 0) → IsTakeTold (Err fault) result
+    → Does result cluster (Ok (refused cluster (batch_refusal refusal)))
+refused_told cluster refusal fault result (inl e) told = refusal_told cluster refusal result (rw e at told)
+refused_told cluster refusal fault result (inr e) told = let wanted = rw e at told in rw wanted tt
+
+taken_told : (cluster : Cluster) (at : ℕ) (copy new : Log) (batch : List Op) (outcome : Result (List Op) TakeFault) (taken : Result ℕ TakeFault) (result : Result Answer TurnFault)
+    → copy ≡ get_or cluster.copies at copy → Takes batch outcome taken copy new → IsTakeTold taken result
+    → Does result (with_copy cluster at new) (Ok (take_done cluster at copy outcome))
+taken_told cluster at copy new batch (Ok ops) (Ok count) (Ok reply) is takes told = rw (told, takes.0, takes.1) refl
+taken_told cluster at copy new batch (Ok ops) (Ok count) (Err f) is takes told = rw told tt
+taken_told cluster at copy new batch (Ok ops) (Err (take.Memory n)) result is takes told = rw told tt
+taken_told cluster at copy new batch (Ok ops) (Err (take.Bad place why)) result is takes told = absurd takes
+taken_told cluster at copy new batch (Ok ops) (Err (take.Clash id)) result is takes told = absurd takes
+taken_told cluster at copy new batch (Ok ops) (Err take.Full) result is takes told = absurd takes
+taken_told cluster at copy new batch (Err refusal) (Ok count) result is takes told = absurd takes
+taken_told cluster at copy new batch (Err refusal) (Err fault) result is takes told =
+    let same : with_copy cluster at new ≡ cluster = ap (with_copy cluster at) takes.1 ∙ with_copy_same cluster at copy is in
+    rw same (refused_told cluster refusal fault result (refused_as refusal fault takes.0) told)
+
+-- a message that came to a copy
+pub delivery_told : (cluster : Cluster) (at message : ℕ) (copy new : Log) (batch : List Op) (taken : Result ℕ TakeFault) (result : Result Answer TurnFault)
+    → at < length cluster.copies → copy ≡ get_or cluster.copies at copy → slice_get cluster.messages message ≡ Some batch
+    → Takes batch (take_outcome copy.ops batch) taken copy new → IsTakeTold taken result
+    → Does result (with_copy cluster at new) (at_processor cluster at (delivered cluster at (slice_get cluster.messages message)))
+delivery_told cluster at message copy new batch taken result within is sent takes told =
+    let done : at_processor cluster at (delivered cluster at (slice_get cluster.messages message)) ≡ Ok (take_done cluster at copy (take_outcome copy.ops batch)) =
+    at_processor_there cluster at copy (delivered cluster at (slice_get cluster.messages message)) within is ∙ rw sent refl in
+    rw done (taken_told cluster at copy new batch (take_outcome copy.ops batch) taken result is takes told)
+
+-- an element in front of a cut, and the first one behind it
+get_front : (front back : List Log) (at : ℕ) (copy : Log) → at < length front → copy ≡ get_or front at copy → slice_get (front ++ back) at ≡ Some copy
+get_front front back at copy within is =
+    slice_get_read (front ++ back) (length (front ++ back)) at copy refl (omega (arith, length-append front back)) (is ∙ sym (get_or-append front back copy at within))
+
+get_back : (front back : List Log) (at : ℕ) (copy : Log) → at ≡ length front → 0 < length back → copy ≡ get_or back 0 copy → slice_get (front ++ back) at ≡ Some copy
+get_back front [] at copy e some is = absurd (omega arith)
+get_back front (first ∷ back) at copy e some is =
+    slice_get_read (front ++ first ∷ back) (length (front ++ first ∷ back)) at copy refl (omega (arith, length-append front (first ∷ back)))
+    (is ∙ (sym (get_or-append_seam front first back copy) ∙ ap (λ (i : ℕ). get_or (front ++ first ∷ back) i copy) (sym e)))
+
+set_back : (front back : List Log) (at : ℕ) (copy : Log) → at ≡ length front → 0 < length back → front ++ slice_set back 0 copy ≡ slice_set (front ++ back) at copy
+set_back front [] at copy e some = absurd (omega arith)
+set_back front (first ∷ back) at copy e some = rw e (sym (set-append_seam front first back copy))
+
+-- one copy took what the first copy behind the cut holds
+pub merges_back : (copies front back : List Log) (into from : ℕ) (one other after : Log) (taken : Result ℕ TakeFault)
+    → copies ≡ front ++ back → into < length front → from ≡ length front → 0 < length back → one ≡ get_or front into one → other ≡ get_or back 0 other
+    → Takes other.ops (take_outcome one.ops other.ops) taken one after → Merges copies into from taken (slice_set front into after ++ back)
+merges_back copies front back into from one other after taken cut within e some one_is other_is takes = record {
+  one = one;
+  other = other;
+  after = after;
+  there = rw cut (get_front front back into one within one_is);
+  other_there = rw cut (get_back front back from other e some other_is);
+  takes = takes;
+  kept = rw cut (sym (set-append_left front back into after within));
+}
+
+-- the first copy behind the cut took what one in front of it holds
+pub merges_front : (copies front back : List Log) (into from : ℕ) (one other after : Log) (taken : Result ℕ TakeFault)
+    → copies ≡ front ++ back → into ≡ length front → from < length front → 0 < length back → one ≡ get_or back 0 one → other ≡ get_or front from other
+    → Takes other.ops (take_outcome one.ops other.ops) taken one after → Merges copies into from taken (front ++ slice_set back 0 after)
+merges_front copies front back into from one other after taken cut e within some one_is other_is takes = record {
+  one = one;
+  other = other;
+  after = after;
+  there = rw cut (get_back front back into one e some one_is);
+  other_there = rw cut (get_front front back from other within other_is);
+  takes = takes;
+  kept = rw cut (set_back front back into after e some);
+}
+
+-- the second of two processors is not there
+second_missing : (cluster : Cluster) (first : Option Log) (done : Log → Log → Done) → at_copy cluster first (λ copy. at_copy cluster None (done copy)) ≡ refused cluster refusal.NoProcessor
+second_missing cluster None done = refl
+second_missing cluster (Some copy) done = refl
+
+missing_by : (cluster : Cluster) (at other : ℕ) (found : Option (ℕ × ℕ)) (done : Log → Log → Done) (first second : Bool)
+    → nat_lt at (length cluster.copies) ≡ first → nat_lt other (length cluster.copies) ≡ second
+    → found ≡ cond (first && second) (Some (at, other)) None → found ≡ None
+    → at_copy cluster (slice_get cluster.copies at) (λ copy. at_copy cluster (slice_get cluster.copies other) (done copy)) ≡ refused cluster refusal.NoProcessor
+missing_by cluster at other found done false second e f is none = rw (slice_get_past cluster.copies at (ltb-false at (length cluster.copies) e)) refl
+missing_by cluster at other found done true false e f is none =
+    rw (slice_get_past cluster.copies other (ltb-false other (length cluster.copies) f)) (second_missing cluster (slice_get cluster.copies at) done)
+missing_by cluster at other found done true true e f is none = cc
+
+-- two processors of which one is not there
+pub no_processors : (cluster : Cluster) (at other : ℕ) (found : Option (ℕ × ℕ)) (done : Log → Log → Done) → 0 < length cluster.copies
+    → found ≡ cond (nat_lt at (length cluster.copies) && nat_lt other (length cluster.copies)) (Some (at, other)) None → found ≡ None
+    → at_processors cluster at other done ≡ Ok (refused cluster refusal.NoProcessor)
+no_processors cluster at other found done some is none =
+    let yes : nat_lt 0 (length cluster.copies) ≡ true = lt-ltb 0 (length cluster.copies) some in
+    rw yes (ap (λ (d : Done). let r : Result Done LineFault = Ok d in r)
+    (missing_by cluster at other found done (nat_lt at (length cluster.copies)) (nat_lt other (length cluster.copies)) refl refl is none))
+
+answer_told : (cluster : Cluster) (text : List ℕ) (result : Result Answer TurnFault) → Answers text result → Does result cluster (Ok (answered cluster text))
+answer_told cluster text (Ok reply) told = rw told refl
+answer_told cluster text (Err f) told = rw told tt
+
+merge_same_by : (cluster : Cluster) (at : ℕ) (copy : Log) (result : Result Answer TurnFault) → slice_get cluster.copies at ≡ Some copy → Answers (taken_text 0) result
+    → Does result cluster (at_processors cluster at at (merged cluster at at))
+merge_same_by cluster at copy result there told =
+    let within = slice_get_within cluster.copies at copy there in
+    let is : copy ≡ get_or cluster.copies at copy = sym (get_or_from_slice_get cluster.copies at copy copy there) in
+    let done : at_processors cluster at at (merged cluster at at) ≡ Ok (answered cluster (taken_text 0)) =
+    at_processors_there cluster at at copy copy (merged cluster at at) within within is is ∙ rw (eq-eqb at at refl) refl in
+    rw done (answer_told cluster (taken_text 0) result told)
+
+-- a copy that takes all of itself
+pub merge_same : (cluster : Cluster) (into from : ℕ) (result : Result Answer TurnFault) → into < length cluster.copies → into ≡ from → Answers (taken_text 0) result
+    → Does result cluster (at_processors cluster into from (merged cluster into from))
+merge_same cluster into from result within e told = elim (slice_get_cases cluster.copies into).1 [
+  | inl found ↦ rw (← e) (merge_same_by cluster into found.0 result found.2 told)
+  | inr past ↦ absurd (omega (arith, past.0))
+]
+
+-- a copy that was given all that another one holds
+pub merge_told : (cluster : Cluster) (into from : ℕ) (copies : List Log) (taken : Result ℕ TakeFault) (result : Result Answer TurnFault)
+    → into ≢ from → Merges cluster.copies into from taken copies → IsTakeTold taken result
+    → Does result (record cluster { copies = copies }) (at_processors cluster into from (merged cluster into from))
+merge_told cluster into from copies taken result apart merges told =
+    let one = merges.one in
+    let other = merges.other in
+    let is : one ≡ get_or cluster.copies into one = sym (get_or_from_slice_get cluster.copies into one one merges.there) in
+    let other_is : other ≡ get_or cluster.copies from other = sym (get_or_from_slice_get cluster.copies from other other merges.other_there) in
+    let within = slice_get_within cluster.copies into one merges.there in
+    let other_within = slice_get_within cluster.copies from other merges.other_there in
+    let differ : (into == from) ≡ false = grind (arith, nat_tests) in
+    let done : at_processors cluster into from (merged cluster into from) ≡ Ok (take_done cluster into one (take_outcome one.ops other.ops)) =
+    at_processors_there cluster into from one other (merged cluster into from) within other_within is other_is ∙ rw differ refl in
+    rw (done, merges.kept) (taken_told cluster into one merges.after other.ops (take_outcome one.ops other.ops) taken result is merges.takes told)
+
+-- the copies stay as many
+pub merges_length : (copies new : List Log) (into from : ℕ) (taken : Result ℕ TakeFault) → Merges copies into from taken new → length new ≡ length copies
+merges_length copies new into from taken merges = ap length merges.kept ∙ length-set copies into merges.after
