@@ -4,4 +4,5 @@ pub mod LineLemmas
 pub mod ReplyLemmas
 pub mod RunLemmas
 pub mod ClusterLemmas
+pub mod CutCopies
 pub mod ExchangeLemmas

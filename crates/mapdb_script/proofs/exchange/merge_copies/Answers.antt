@@ -1,5 +1,5 @@
 use Rattle.std.proofs.Common.{arith}
-use Rattle.mapdb_script.proofs.ExchangeLemmas.{merges_back, merges_front}
+use Rattle.mapdb_script.proofs.CutCopies.{merges_back, merges_front}
 use Rattle.mapdb_script.proofs.exchange.merge_copies.Goals as goal
 
 pub returns-then-into-from : goal.returns-then-into-from

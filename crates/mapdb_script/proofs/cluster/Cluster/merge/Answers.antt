@@ -3,7 +3,8 @@ use Rattle.std.proofs.lemmas.List.{with_items_is}
 use Rattle.std.specs.Vec.{with_items}
 use Rattle.mapdb_script.specs.Cluster.{merged}
 use Rattle.mapdb_script.specs.States.{cluster_of}
-use Rattle.mapdb_script.proofs.ExchangeLemmas.{merge_same, merge_told, merges_length, no_processors}
+use Rattle.mapdb_script.proofs.CutCopies.{merges_length}
+use Rattle.mapdb_script.proofs.ExchangeLemmas.{merge_same, merge_told, no_processors}
 use Rattle.mapdb_script.proofs.cluster.Cluster.merge.Goals as goal
 
 pub returns-in_default : goal.returns-in_default
