@@ -21,10 +21,18 @@ Lines of a script:
                              FPAGE of space R; BASE is the send base
   rights P S ADDR            asks for the frames and the rights of space S at address ADDR
   served P S ADDR            asks for the frame that the page at ADDR of space S is served from
+  send P I J                 makes a message of the operations of P's copy, in order of arrival,
+                             from the mark I on and up to before the mark J
+  deliver M P                brings message M to processor P, whose copy takes its operations
+  merge P Q                  has P's copy take all that Q's copy holds
+  same P Q                   asks whether both copies hold the same
+  covers P Q                 asks whether P's copy holds all that Q's copy holds
   # ...                      a comment
 
 Words of a line:
-  N, P, S, R  decimal; processors count from 0, and space 0 stands for physical memory
+  N, P, Q     decimal; processors count from 0
+  S, R        decimal; space 0 stands for physical memory
+  I, J, M     decimal; marks and messages count from 0
   BASE, ADDR  an address, in hexadecimal without a prefix
   FPAGE       ADDR/ORDER, the 2^ORDER bytes from ADDR on, with ORDER decimal; or `all`, or `nil`
   SEND        FPAGE:RIGHTS, the rights as rwx with - for each one that is missing

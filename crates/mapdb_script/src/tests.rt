@@ -1,5 +1,6 @@
 //! What scripts write, and what a run makes of readers and writers that give little or fail.
 
+mod exchange;
 mod lines;
 mod rows;
 mod streams;

@@ -41,6 +41,20 @@ fn lines_say_commands(rt: HostRuntime) -> Result<(), Fail> {
         parse_line(b"served 1 65535 fffff000"),
         Ok(Some(Line::Served(1, second, 0xffff_f000)))
     );
+    for (line, said) in [
+        (
+            b"send 255 00 4294967295".as_slice(),
+            Line::Send(255, 0, u32::MAX),
+        ),
+        (b"send 0 7 1", Line::Send(0, 7, 1)),
+        (b"deliver 4294967295 255", Line::Deliver(u32::MAX, 255)),
+        (b"deliver 00000000000000000009 0", Line::Deliver(9, 0)),
+        (b"merge 1 2", Line::Merge(1, 2)),
+        (b"same 255 0", Line::Same(255, 0)),
+        (b"covers 0 1", Line::Covers(0, 1)),
+    ] {
+        assert_eq!(rt; parse_line(line), Ok(Some(said)));
+    }
     for line in [b"".as_slice(), b"   ", b"\r", b"# \xff", b"  #map"] {
         assert_eq!(rt; parse_line(line), Ok(None));
     }
@@ -64,6 +78,21 @@ fn words_are_looked_at_in_order(rt: HostRuntime) {
         (b"rights 0 0 000000000", LineFault::Number),
         (b"served 256 65536 0", LineFault::Number),
         (b"served 0 0 100000000", LineFault::Number),
+        (b"sent 0 0 0", LineFault::Unknown),
+        (b"send 0 0", LineFault::Words),
+        (b"deliver 0 0 0", LineFault::Words),
+        (b"merge x", LineFault::Words),
+        (b"same 0", LineFault::Words),
+        (b"covers 0 0 0", LineFault::Words),
+        (b"send 256 0 0", LineFault::Number),
+        (b"send 0 4294967296 0", LineFault::Number),
+        (b"send 0 0 a", LineFault::Number),
+        (b"deliver 4294967296 0", LineFault::Number),
+        (b"deliver 000000000000000000000 0", LineFault::Number),
+        (b"deliver 0 256", LineFault::Number),
+        (b"merge 0 256", LineFault::Number),
+        (b"same -1 0", LineFault::Number),
+        (b"covers 0 1.0", LineFault::Number),
         (b"map 0 0 10000/11 0 1 x", LineFault::PageSyntax),
         (b"map 0 0 x:zzz y z w", LineFault::PageSyntax),
         (b"map 0 0 10000/256:rwx 0 1 all", LineFault::PageSyntax),

@@ -6,7 +6,7 @@ use std::process::Abort;
 use std::test::Fail;
 
 /// Runs a script of so many lines, none of them refused, which writes this.
-fn writes(
+pub fn writes(
     rt: &impl Abort,
     alloc: Global,
     lines: u64,
@@ -250,6 +250,18 @@ fn clusters_are_made_once(rt: HostRuntime) -> Result<(), Fail> {
             2,
             LineFault::NoProcessors,
             "line 2 fault no-processors\n",
+        ),
+        (
+            "deliver 9 0\n",
+            1,
+            LineFault::NoProcessors,
+            "line 1 fault no-processors\n",
+        ),
+        (
+            "merge 0 0\n",
+            1,
+            LineFault::NoProcessors,
+            "line 1 fault no-processors\n",
         ),
         (
             "#\nprocessors 0",
