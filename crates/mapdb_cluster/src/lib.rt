@@ -15,3 +15,6 @@ mod taking;
 pub use clusters::Cluster;
 pub use events::{Event, Refusal, Reply};
 pub use runs::RunFault;
+
+#[cfg(test)]
+mod tests;

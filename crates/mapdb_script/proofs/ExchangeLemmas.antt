@@ -11,7 +11,8 @@ use Rattle.mapdb_replica.specs.declared.faults.TakeFault.{TakeFault}
 use Rattle.mapdb_replica.specs.declared.faults.TakeFault.TheVariants as take
 use Rattle.mapdb_script.specs.Cluster.{Cluster, Done, answered, at_copy, at_processor, at_processors, batch_refusal, delivered, merged, refused, take_done, with_copy}
 use Rattle.mapdb_script.specs.Reply.{taken_text}
-use Rattle.mapdb_script.specs.States.{Answers, Does, IsTakeTold, Merges}
+use Rattle.mapdb_replica.specs.Merging.{Merges}
+use Rattle.mapdb_script.specs.States.{Answers, Does, IsTakeTold}
 use Rattle.mapdb_script.specs.declared.cluster.Reply.{Reply as Answer}
 use Rattle.mapdb_script.specs.declared.fault.LineFault.{LineFault}
 use Rattle.mapdb_script.specs.declared.replies.Refusal.TheVariants as refusal

@@ -4,5 +4,4 @@ pub mod LineLemmas
 pub mod ReplyLemmas
 pub mod RunLemmas
 pub mod ClusterLemmas
-pub mod CutCopies
 pub mod ExchangeLemmas

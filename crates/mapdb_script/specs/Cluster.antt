@@ -14,8 +14,9 @@ use Rattle.mapdb_replica.specs.declared.faults.IssueFault.{IssueFault}
 use Rattle.mapdb_replica.specs.declared.faults.IssueFault.TheVariants as issue
 use Rattle.mapdb_replica.specs.declared.faults.TakeFault.{TakeFault}
 use Rattle.mapdb_replica.specs.declared.faults.TakeFault.TheVariants as take
+use Rattle.mapdb_replica.specs.Unmap.{end_outcome, unmap_outcome}
 use Rattle.mapdb_script.specs.Limits.{most_processors}
-use Rattle.mapdb_script.specs.Reply.{records_text, rights_text, served_text, message_text, taken_text, same_text, covers_text, refusal_text}
+use Rattle.mapdb_script.specs.Reply.{covers_text, ended_text, message_text, records_text, refusal_text, revocations_text, rights_text, same_text, served_text, taken_text}
 use Rattle.mapdb_script.specs.declared.fault.LineFault.{LineFault}
 use Rattle.mapdb_script.specs.declared.fault.LineFault.TheVariants as fault
 use Rattle.mapdb_script.specs.declared.lines.Line.{Line}
@@ -81,6 +82,10 @@ issue_done cluster at copy text (Err f) = refused cluster (refusal_of f)
 abbrev pub names_text : List Op → List ℕ
 names_text ops = records_text (names_of ops)
 
+-- the text that an Unmap is answered
+abbrev pub count_text : List Op → List ℕ
+count_text ops = revocations_text (length ops)
+
 -- what sending does: the message is kept, or the marks are bad
 abbrev pub send_done : Cluster → Result (List Op) GiveFault → Done
 send_done cluster (Ok ops) = answered (with_message cluster ops) (message_text (length cluster.messages) (length ops))
@@ -141,6 +146,10 @@ done_by cluster (line.Processors count) =
     if (count == 0) || nat_lt most_processors count then Err fault.ProcessorCount else begin cluster.copies count
 done_by cluster (line.Map at sender item receiver window) =
     at_processor cluster at (λ copy. issue_done cluster at copy names_text (map_outcome copy sender item receiver window))
+done_by cluster (line.Unmap at space page rights flush) =
+    at_processor cluster at (λ copy. issue_done cluster at copy count_text (unmap_outcome copy space page rights flush))
+done_by cluster (line.End at space) =
+    at_processor cluster at (λ copy. issue_done cluster at copy (λ ops. ended_text space) (end_outcome copy space))
 done_by cluster (line.Rights at space address) =
     at_processor cluster at (λ copy. answered cluster (rights_text (page_rights copy.ops space (address / page_bytes))))
 done_by cluster (line.Served at space address) =

@@ -3,7 +3,7 @@ use Rattle.std.specs.Prelude.{ℕ, List, codes}
 use Rattle.mapdb_fpage.specs.declared.places.FpageFault.{FpageFault}
 use Rattle.mapdb_fpage.specs.declared.places.FpageFault.TheVariants as place
 use Rattle.mapdb_script.specs.declared.fault.LineFault.{LineFault}
-use Rattle.mapdb_script.specs.declared.fault.LineFault.TheVariants.{TooManyLines, TooLong, Unknown, Words, Number, PageSyntax, TooSmall, TooLarge, OutOfSpace, Unaligned, Rights, ProcessorCount, ProcessorsAgain, NoProcessors}
+use Rattle.mapdb_script.specs.declared.fault.LineFault.TheVariants.{TooManyLines, TooLong, Unknown, Words, Number, PageSyntax, TooSmall, TooLarge, OutOfSpace, Unaligned, Rights, Mode, ProcessorCount, ProcessorsAgain, NoProcessors}
 use Rattle.mapdb_script.specs.declared.fault.ScriptFault.{ScriptFault}
 use Rattle.mapdb_script.specs.declared.fault.ScriptFault.TheVariants as script
 use Rattle.mapdb_script.specs.declared.reading.ReadFault.{ReadFault}
@@ -34,6 +34,7 @@ name_of TooLarge = codes "too-large"
 name_of OutOfSpace = codes "out-of-space"
 name_of Unaligned = codes "unaligned"
 name_of Rights = codes "rights"
+name_of Mode = codes "mode"
 name_of ProcessorCount = codes "processor-count"
 name_of ProcessorsAgain = codes "processors-again"
 name_of NoProcessors = codes "no-processors"

@@ -3,8 +3,8 @@ use Rattle.std.specs.Prelude.{ℕ, List, [], ◌∷◌, Bool, false, Option, Som
 use Rattle.std.specs.Str.{bytes_eq}
 use Rattle.mapdb_facts.specs.declared.names.Space.{Space}
 use Rattle.mapdb_script.specs.Lines.{without_return}
-use Rattle.mapdb_script.specs.Words.{words_of, one_of, two_of, three_of, six_of}
-use Rattle.mapdb_script.specs.Spellings.{◌>>=◌, or_fault, processor_at, mark_at, space_at, address_at, base_at, fpage_at, send_at}
+use Rattle.mapdb_script.specs.Words.{words_of, one_of, two_of, three_of, four_of, six_of}
+use Rattle.mapdb_script.specs.Spellings.{◌>>=◌, or_fault, processor_at, mark_at, space_at, address_at, base_at, fpage_at, mode_at, send_at}
 use Rattle.mapdb_script.specs.declared.fault.LineFault.{LineFault}
 use Rattle.mapdb_script.specs.declared.fault.LineFault.TheVariants as fault
 use Rattle.mapdb_script.specs.declared.grammar.Keyword.{Keyword}
@@ -30,6 +30,24 @@ map_at words = do
   receiver ← space_at word.4
   window ← fpage_at word.5
   Ok (line.Map processor sender (record { send_base = base; page = send.0; rights = send.1 }) receiver window)
+
+-- unmap P S SEND MODE
+unfoldable pub unmapping_at : List (List ℕ) → Result Line LineFault
+unmapping_at words = do
+  word ← or_fault (four_of words) fault.Words
+  processor ← processor_at word.0
+  space ← space_at word.1
+  send ← send_at word.2
+  flush ← mode_at word.3
+  Ok (line.Unmap processor space send.0 send.1 flush)
+
+-- end P S
+unfoldable pub ending_at : List (List ℕ) → Result Line LineFault
+ending_at words = do
+  word ← or_fault (two_of words) fault.Words
+  processor ← processor_at word.0
+  space ← space_at word.1
+  Ok (line.End processor space)
 
 -- P S ADDR
 unfoldable pub page_query_at : List (List ℕ) → Result (ℕ × Space × ℕ) LineFault
@@ -70,6 +88,8 @@ abbrev pub keyword_of : List ℕ → Option Keyword
 keyword_of word =
     if bytes_eq word (codes "processors") then Some keyword.Processors
     else (if bytes_eq word (codes "map") then Some keyword.Map
+    else (if bytes_eq word (codes "unmap") then Some keyword.Unmap
+    else (if bytes_eq word (codes "end") then Some keyword.End
     else (if bytes_eq word (codes "rights") then Some keyword.Rights
     else (if bytes_eq word (codes "served") then Some keyword.Served
     else (if bytes_eq word (codes "send") then Some keyword.Send
@@ -77,13 +97,15 @@ keyword_of word =
     else (if bytes_eq word (codes "merge") then Some keyword.Merge
     else (if bytes_eq word (codes "same") then Some keyword.Same
     else (if bytes_eq word (codes "covers") then Some keyword.Covers
-    else None))))))))
+    else None))))))))))
 
 -- what a line with this first word says, by the words behind it
 unfoldable pub line_at : Option Keyword → List (List ℕ) → Result Line LineFault
 line_at None words = Err fault.Unknown
 line_at (Some keyword.Processors) words = processors_at words
 line_at (Some keyword.Map) words = map_at words
+line_at (Some keyword.Unmap) words = unmapping_at words
+line_at (Some keyword.End) words = ending_at words
 line_at (Some keyword.Rights) words = page_query_at words >>= λ query. Ok (line.Rights query.0 query.1 query.2)
 line_at (Some keyword.Served) words = page_query_at words >>= λ query. Ok (line.Served query.0 query.1 query.2)
 line_at (Some keyword.Send) words = sending_at words

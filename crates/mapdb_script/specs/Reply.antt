@@ -6,6 +6,7 @@ use Rattle.mapdb_fpage.specs.declared.right_sets.Rights.{Rights}
 use Rattle.mapdb_facts.specs.declared.checking.OpFault.{OpFault}
 use Rattle.mapdb_facts.specs.declared.checking.OpFault.TheVariants as op
 use Rattle.mapdb_facts.specs.declared.names.RecordId.{RecordId}
+use Rattle.mapdb_facts.specs.declared.names.Space.{Space}
 use Rattle.mapdb_script.specs.declared.replies.Refusal.{Refusal}
 use Rattle.mapdb_script.specs.declared.replies.Refusal.TheVariants as refusal
 
@@ -21,6 +22,14 @@ spaced text xs = flat_map (λ x. 32 ∷ text x) xs
 abbrev pub records_text : List RecordId → List ℕ
 records_text [] = codes "records none"
 records_text (id ∷ ids) = codes "records" ++ spaced name_text (id ∷ ids)
+
+-- how many revocations were issued
+abbrev pub revocations_text : ℕ → List ℕ
+revocations_text count = codes "revocations " ++ decimal count
+
+-- the space that has ended
+abbrev pub ended_text : Space → List ℕ
+ended_text space = codes "ended " ++ decimal space.number
 
 -- a page or a frame: at least five hexadecimal digits in lower case
 abbrev pub frame_text : ℕ → List ℕ

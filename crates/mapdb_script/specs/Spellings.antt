@@ -63,6 +63,13 @@ rights_at (r ∷ w ∷ x ∷ []) = do
   Ok (record { read = read; write = write; execute = execute })
 rights_at _ = Err fault.Rights
 
+-- whether a mode is a flush
+abbrev pub mode_at : List ℕ → Result Bool LineFault
+mode_at word =
+    if bytes_eq word (codes "keep") then Ok false
+    else (if bytes_eq word (codes "flush") then Ok true
+    else Err fault.Mode)
+
 -- a place, or the fault of the word that names none
 abbrev pub or_page_fault : Result Place FpageFault → Result (Option Place) LineFault
 or_page_fault (Ok place) = Ok (Some place)

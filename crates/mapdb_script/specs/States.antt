@@ -1,10 +1,8 @@
 -- What the engine holds, and what its calls answer.
-use Rattle.std.specs.Prelude.{◌≡◌, ℕ, List, Some, Result, Ok, Err, String, string_bytes, slice_get, slice_set}
+use Rattle.std.specs.Prelude.{◌≡◌, ℕ, List, Result, Ok, Err, String, string_bytes}
 use Rattle.mapdb_script.specs.Cluster.{Cluster, Reply, Done, Silent, Answered, Refused, refusal_of, batch_refusal}
 use Rattle.mapdb_script.specs.Reply.{taken_text}
 use Rattle.mapdb_script.specs.Script.{State}
-use Rattle.mapdb_replica.specs.Replica.{Log}
-use Rattle.mapdb_replica.specs.Taking.{Takes, take_outcome}
 use Rattle.mapdb_replica.specs.declared.faults.IssueFault.{IssueFault}
 use Rattle.mapdb_replica.specs.declared.faults.IssueFault.TheVariants as issue
 use Rattle.mapdb_replica.specs.declared.faults.TakeFault.{TakeFault}
@@ -46,16 +44,6 @@ abbrev pub IsTakeTold : Result ℕ TakeFault → Result Answer TurnFault → Typ
 IsTakeTold (Ok count) result = Answers (taken_text count) result
 IsTakeTold (Err (take.Memory taken)) result = result ≡ Err turn.Memory
 IsTakeTold (Err fault) result = result ≡ Ok (answer.Refused (batch_refusal fault))
-
--- One of the copies took all that another one holds, and the others stayed.
-pub record Merges (copies : List Log) (into from : ℕ) (taken : Result ℕ TakeFault) (new : List Log) : Type 0 where
-  pub one : Log
-  pub other : Log
-  pub after : Log
-  pub there : slice_get copies into ≡ Some one
-  pub other_there : slice_get copies from ≡ Some other
-  pub takes : Takes other.ops (take_outcome one.ops other.ops) taken one after
-  pub kept : new ≡ slice_set copies into after
 
 -- A line did what it is to do, or has the fault that it is to have, unless memory ran out.
 abbrev pub Does : Result Answer TurnFault → Cluster → Result Done LineFault → Type 0

@@ -69,6 +69,11 @@ abbrev pub three_of : List (List ℕ) → Option (List ℕ × List ℕ × List �
 three_of (a ∷ b ∷ c ∷ []) = Some (a, b, c)
 three_of _ = None
 
+-- the words of a list of four
+abbrev pub four_of : List (List ℕ) → Option (List ℕ × List ℕ × List ℕ × List ℕ)
+four_of (a ∷ b ∷ c ∷ d ∷ []) = Some (a, b, c, d)
+four_of _ = None
+
 -- the words of a list of six
 abbrev pub six_of : List (List ℕ) → Option (List ℕ × List ℕ × List ℕ × List ℕ × List ℕ × List ℕ)
 six_of (a ∷ b ∷ c ∷ d ∷ e ∷ f ∷ []) = Some (a, b, c, d, e, f)

@@ -8,10 +8,10 @@ use crate::fault::LineFault;
 use crate::limits::MOST_PROCESSORS;
 use crate::lines::Line;
 use crate::messages::Message;
-use crate::replies::{Refusal, records_text, rights_text, served_text, taken_text};
+use crate::replies::{Refusal, ended_text, records_text, revocations_text, rights_text, served_text, taken_text};
 use crate::turn_fault::TurnFault;
 use mapdb_facts::Space;
-use mapdb_fpage::{Fpage, MapItem, PAGE_BYTES};
+use mapdb_fpage::{Fpage, MapItem, PAGE_BYTES, Rights};
 use mapdb_replica::{IssueFault, Replica, TakeFault};
 use std::alloc::{AllocError, Global};
 
@@ -109,12 +109,13 @@ pub struct Cluster {
 
 impl Cluster {
     ghost use Rattle.std.specs.Prelude.{◌≡◌, ◌≤◌, ◌<◌, ◌/◌, IfOk, IfSome, Ok, Err, Some, None, length, nat_lt, if◌then◌else◌};
-    ghost use Rattle.mapdb_script.specs.Cluster.{answered, at_processor, begin, done_by, issue_done, names_text, no_copies};
-    ghost use Rattle.mapdb_script.specs.Reply.{rights_text, served_text};
+    ghost use Rattle.mapdb_script.specs.Cluster.{answered, at_processor, begin, count_text, done_by, issue_done, names_text, no_copies};
+    ghost use Rattle.mapdb_script.specs.Reply.{ended_text, rights_text, served_text};
     ghost use Rattle.mapdb_script.specs.States.{Does, cluster_of};
     ghost use Rattle.mapdb_replica.specs.Pairs.{page_rights};
     ghost use Rattle.mapdb_replica.specs.Replica.{map_outcome};
     ghost use Rattle.mapdb_replica.specs.Served.{served};
+    ghost use Rattle.mapdb_replica.specs.Unmap.{end_outcome, unmap_outcome};
 
     /// No cluster.
     pub fn new(alloc: Global) -> Self
@@ -183,6 +184,48 @@ impl Cluster {
         }
     }
 
+    /// Unmaps at a processor.
+    fn unmap(
+        &mut self,
+        at: u8,
+        space: Space,
+        page: Option<Fpage>,
+        rights: Rights,
+        flush: bool,
+    ) -> Result<Reply, TurnFault>
+        ensures { Does result (cluster_of self.new) (at_processor (cluster_of self.old) at
+            (λ copy. issue_done (cluster_of self.old) at copy count_text
+            (unmap_outcome copy space page rights flush))) }
+    {
+        let Some(at) = self.place(at)? else {
+            return Ok(Reply::Refused(Refusal::NoProcessor));
+        };
+        match self.copies[at].unmap(space, page, rights, flush) {
+            Ok(count) => {
+                let text = revocations_text(self.alloc, count)?;
+                Ok(Reply::Answered(text))
+            }
+            Err(fault) => Reply::refused(fault),
+        }
+    }
+
+    /// Ends a space at a processor.
+    fn end(&mut self, at: u8, space: Space) -> Result<Reply, TurnFault>
+        ensures { Does result (cluster_of self.new) (at_processor (cluster_of self.old) at
+            (λ copy. issue_done (cluster_of self.old) at copy (λ _. ended_text space) (end_outcome copy space))) }
+    {
+        let Some(at) = self.place(at)? else {
+            return Ok(Reply::Refused(Refusal::NoProcessor));
+        };
+        match self.copies[at].end(space) {
+            Ok(()) => {
+                let text = ended_text(self.alloc, space)?;
+                Ok(Reply::Answered(text))
+            }
+            Err(fault) => Reply::refused(fault),
+        }
+    }
+
     /// Asks a processor for the rights of a page.
     fn rights(&self, at: u8, space: Space, address: u32) -> Result<Reply, TurnFault>
         ensures { Does result (cluster_of self.now) (at_processor (cluster_of self.now) at
@@ -222,6 +265,10 @@ impl Cluster {
             Line::Map(at, sender, item, receiver, window) => {
                 self.map(at, sender, item, receiver, window)
             }
+            Line::Unmap(at, space, page, rights, flush) => {
+                self.unmap(at, space, page, rights, flush)
+            }
+            Line::End(at, space) => self.end(at, space),
             Line::Rights(at, space, address) => self.rights(at, space, address),
             Line::Served(at, space, address) => self.served(at, space, address),
             Line::Send(at, first, end) => self.send(at, first, end),

@@ -1,30 +1,11 @@
 //! What copies tell each other by the lines of a script, and how they compare.
 
-ghost use Rattle.std.specs.Prelude.{◌≢◌, ◌<◌, length};
-ghost use Rattle.mapdb_script.specs.States.{Merges};
-
 use crate::cluster::{Cluster, Reply};
 use crate::fault::LineFault;
 use crate::messages::Message;
 use crate::replies::{Refusal, covers_text, message_text, same_text};
 use crate::turn_fault::TurnFault;
-use mapdb_replica::{GiveFault, Replica, TakeFault};
-
-/// One copy takes all that another one holds.
-fn merge_copies(copies: &mut [Replica], into: usize, from: usize) -> Result<u32, TakeFault>
-    requires into { into < length copies.old }
-    requires from { from < length copies.old }
-    requires apart { into ≢ from }
-    ensures { Merges copies.old into from result copies.new }
-{
-    if into < from {
-        let (front, back) = copies.split_at_mut(from);
-        front[into].merge(&back[0])
-    } else {
-        let (front, back) = copies.split_at_mut(into);
-        back[0].merge(&front[from])
-    }
-}
+use mapdb_replica::{GiveFault, merge_among};
 
 impl Cluster {
     ghost use Rattle.std.specs.Prelude.{◌≡◌, ◌<◌, ◌&&◌, IfOk, IfSome, OnOk, OnErr, Err, Some, None, length, nat_lt, slice_get, if◌then◌else◌};
@@ -94,7 +75,7 @@ impl Cluster {
         if into == from {
             return Reply::taken(self.alloc, Ok(0));
         }
-        let taken = merge_copies(self.copies.as_mut_slice(), into, from);
+        let taken = merge_among(self.copies.as_mut_slice(), into, from);
         Reply::taken(self.alloc, taken)
     }
 

@@ -32,6 +32,8 @@ pub enum LineFault {
     Unaligned,
     /// Rights are not spelled by three characters.
     Rights,
+    /// A mode is neither `keep` nor `flush`.
+    Mode,
     /// A cluster of none or of too many processors.
     ProcessorCount,
     /// The cluster is there already.
@@ -59,6 +61,7 @@ impl LineFault {
             LineFault::OutOfSpace => "out-of-space",
             LineFault::Unaligned => "unaligned",
             LineFault::Rights => "rights",
+            LineFault::Mode => "mode",
             LineFault::ProcessorCount => "processor-count",
             LineFault::ProcessorsAgain => "processors-again",
             LineFault::NoProcessors => "no-processors",

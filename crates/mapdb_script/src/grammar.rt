@@ -3,12 +3,12 @@
 ghost use Rattle.std.specs.Prelude.{◌≡◌};
 ghost use Rattle.mapdb_script.specs.Lines.{without_return};
 ghost use Rattle.mapdb_script.specs.Words.{words_of};
-ghost use Rattle.mapdb_script.specs.Grammar.{processors_at, map_at, page_query_at, sending_at, delivery_at, pair_at, keyword_of, is_comment, line_at, said_by};
+ghost use Rattle.mapdb_script.specs.Grammar.{processors_at, map_at, unmapping_at, ending_at, page_query_at, sending_at, delivery_at, pair_at, keyword_of, is_comment, line_at, said_by};
 
 use crate::fault::LineFault;
 use crate::lines::Line;
-use crate::spellings::{address, base, fpage, mark, processor, send, space};
-use crate::words::{next_word, one_word, six_words, three_words, two_words};
+use crate::spellings::{address, base, fpage, mark, mode, processor, send, space};
+use crate::words::{four_words, next_word, one_word, six_words, three_words, two_words};
 use mapdb_facts::Space;
 use mapdb_fpage::MapItem;
 
@@ -19,6 +19,10 @@ enum Keyword {
     Processors,
     /// `map`.
     Map,
+    /// `unmap`.
+    Unmap,
+    /// `end`.
+    End,
     /// `rights`.
     Rights,
     /// `served`.
@@ -77,6 +81,34 @@ fn map_line(words: &[u8]) -> Result<Line, LineFault>
         rights,
     };
     Ok(Line::Map(at, sender, item, receiver, window))
+}
+
+/// `unmap P S SEND MODE`.
+#[tactic(auto, unfolding(crate::specs::Grammar::unmapping_at))]
+fn unmapping_line(words: &[u8]) -> Result<Line, LineFault>
+    ensures { result ≡ unmapping_at (words_of words.now) }
+{
+    let Some((at, invoker, part, how)) = four_words(words) else {
+        return Err(LineFault::Words);
+    };
+    let at = processor(at)?;
+    let invoker = space(invoker)?;
+    let (page, rights) = send(part)?;
+    let flush = mode(how)?;
+    Ok(Line::Unmap(at, invoker, page, rights, flush))
+}
+
+/// `end P S`.
+#[tactic(auto, unfolding(crate::specs::Grammar::ending_at))]
+fn ending_line(words: &[u8]) -> Result<Line, LineFault>
+    ensures { result ≡ ending_at (words_of words.now) }
+{
+    let Some((at, ended)) = two_words(words) else {
+        return Err(LineFault::Words);
+    };
+    let at = processor(at)?;
+    let ended = space(ended)?;
+    Ok(Line::End(at, ended))
 }
 
 /// `P S ADDR`, the page that a query asks for.
@@ -141,6 +173,10 @@ fn keyword_of(word: &[u8]) -> Option<Keyword>
         Some(Keyword::Processors)
     } else if word == b"map".as_slice() {
         Some(Keyword::Map)
+    } else if word == b"unmap".as_slice() {
+        Some(Keyword::Unmap)
+    } else if word == b"end".as_slice() {
+        Some(Keyword::End)
     } else if word == b"rights".as_slice() {
         Some(Keyword::Rights)
     } else if word == b"served".as_slice() {
@@ -179,6 +215,8 @@ fn line_of(keyword: Option<Keyword>, words: &[u8]) -> Result<Line, LineFault>
         None => Err(LineFault::Unknown),
         Some(Keyword::Processors) => processors_line(words),
         Some(Keyword::Map) => map_line(words),
+        Some(Keyword::Unmap) => unmapping_line(words),
+        Some(Keyword::End) => ending_line(words),
         Some(Keyword::Rights) => {
             let (at, asked, byte) = page_query(words)?;
             Ok(Line::Rights(at, asked, byte))

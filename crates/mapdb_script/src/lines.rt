@@ -1,7 +1,7 @@
 //! What the lines of a script say.
 
 use mapdb_facts::Space;
-use mapdb_fpage::{Fpage, MapItem};
+use mapdb_fpage::{Fpage, MapItem, Rights};
 
 /// A line that says something: a command or a query, with the values of its words in their order.
 #[derive(Clone, Copy, Debug, PartialEq, Eq)]
@@ -11,6 +11,11 @@ pub enum Line {
     /// `map P S SEND BASE R FPAGE`: at processor P, space S offers an item to space R, which takes it into a window,
     /// or into nil.
     Map(u8, Space, MapItem, Space, Option<Fpage>),
+    /// `unmap P S SEND MODE`: at processor P, space S takes rights of a part of it from all that received it, and with
+    /// `flush`, which is true here, from itself too.
+    Unmap(u8, Space, Option<Fpage>, Rights, bool),
+    /// `end P S`: at processor P, space S ends.
+    End(u8, Space),
     /// `rights P S ADDR`: at processor P, the rights of space S at a byte address.
     Rights(u8, Space, u32),
     /// `served P S ADDR`: at processor P, the frame that space S is served from at a byte address.

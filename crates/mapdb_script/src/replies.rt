@@ -1,7 +1,7 @@
 //! The texts of replies, without the end of their line.
 
 ghost use Rattle.std.specs.Prelude.{◌≡◌, ◌∷◌, ◌++◌, IfOk, string_bytes};
-ghost use Rattle.mapdb_script.specs.Reply.{name_text, frame_text, mapping_text, records_text, rights_text, served_text, message_text, taken_text, same_text, covers_text, bad_name};
+ghost use Rattle.mapdb_script.specs.Reply.{name_text, frame_text, mapping_text, records_text, revocations_text, ended_text, rights_text, served_text, message_text, taken_text, same_text, covers_text, bad_name};
 
 use mapdb_facts::{OpFault, RecordId, Space};
 use mapdb_fpage::Rights;
@@ -52,6 +52,21 @@ pub fn records_text(alloc: Global, ids: &[RecordId]) -> Result<String, AllocErro
         text.push_str(name_text(alloc, *id)?.as_str())?;
     }
     Ok(text)
+}
+
+/// `revocations` and how many were issued.
+pub fn revocations_text(alloc: Global, count: u32) -> Result<String, AllocError>
+    ensures { IfOk result (λ text. string_bytes text ≡ revocations_text count) }
+{
+    format!(in alloc; "revocations {count}")
+}
+
+/// `ended` and the space.
+pub fn ended_text(alloc: Global, space: Space) -> Result<String, AllocError>
+    ensures { IfOk result (λ text. string_bytes text ≡ ended_text space) }
+{
+    let number = space.number;
+    format!(in alloc; "ended {number}")
 }
 
 /// A frame, in at least five hexadecimal digits.

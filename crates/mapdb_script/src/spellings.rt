@@ -1,7 +1,7 @@
 //! How the words of a line are spelled.
 
 ghost use Rattle.std.specs.Prelude.{◌≡◌};
-ghost use Rattle.mapdb_script.specs.Spellings.{decimal_at, processor_at, mark_at, space_at, address_at, base_at, letter_at, rights_at, place_by, fpage_at, send_at};
+ghost use Rattle.mapdb_script.specs.Spellings.{decimal_at, processor_at, mark_at, space_at, address_at, base_at, letter_at, rights_at, mode_at, place_by, fpage_at, send_at};
 
 use crate::fault::LineFault;
 use crate::limits::{ADDRESS_DIGITS, BASE_DIGITS, DECIMAL_DIGITS, PLACE_DIGITS};
@@ -136,4 +136,17 @@ pub fn send(word: &[u8]) -> Result<(Option<Fpage>, Rights), LineFault>
     let page = fpage(page)?;
     let held = rights(held)?;
     Ok((page, held))
+}
+
+/// Whether a mode is a flush.
+pub fn mode(word: &[u8]) -> Result<bool, LineFault>
+    ensures { result ≡ mode_at word.now }
+{
+    if word == b"keep".as_slice() {
+        Ok(false)
+    } else if word == b"flush".as_slice() {
+        Ok(true)
+    } else {
+        Err(LineFault::Mode)
+    }
 }

@@ -2,7 +2,7 @@
 
 ghost use Rattle.std.specs.Prelude.{◌≡◌, ◌∷◌, [], ◌≤◌, length, take, drop, IfSome, None};
 ghost use Rattle.std.specs.Option.{option_map};
-ghost use Rattle.mapdb_script.specs.Words.{words_of, behind_spaces, cut_at, one_of, two_of, three_of, six_of};
+ghost use Rattle.mapdb_script.specs.Words.{words_of, behind_spaces, cut_at, one_of, two_of, three_of, four_of, six_of};
 ghost use Rattle.mapdb_script.specs.Lines.{before, beyond};
 
 /// How many bytes stand before the first byte `end`.
@@ -90,6 +90,20 @@ pub fn three_words(line: &[u8]) -> Option<(&[u8], &[u8], &[u8])>
     match next_word(rest) {
         Some(_) => None,
         None => Some((first, second, third)),
+    }
+}
+
+/// The words of a line of four.
+pub fn four_words(line: &[u8]) -> Option<(&[u8], &[u8], &[u8], &[u8])>
+    ensures { option_map (λ w. (w.0.now, w.1.now, w.2.now, w.3.now)) result ≡ four_of (words_of line.now) }
+{
+    let (first, rest) = next_word(line)?;
+    let (second, rest) = next_word(rest)?;
+    let (third, rest) = next_word(rest)?;
+    let (fourth, rest) = next_word(rest)?;
+    match next_word(rest) {
+        Some(_) => None,
+        None => Some((first, second, third, fourth)),
     }
 }
 

@@ -44,10 +44,11 @@ fn unmap(
 ) -> Result<u32, Fail> {
     let rights = Rights::from_bits(bits).ok_or("a set of rights")?;
     let place = Some(Fpage::new(addr, s)?);
-    Ok(copy
-        .unmap(space(number), place, rights, flush)
-        .ok()
-        .ok_or("an Unmap that is not refused")?)
+    Ok(
+        copy.unmap(space(number), place, rights, flush)
+            .ok()
+            .ok_or("an Unmap that is not refused")?,
+    )
 }
 
 /// Takes the operation at a place of another copy, which is new.
@@ -208,7 +209,10 @@ fn full_copy(rt: HostRuntime) -> Result<(), Fail> {
     assert_eq!(rt; copy.take(&[root_cut(0x1000)?]), Err(TakeFault::Full));
     let rights = Rights::from_bits(4).ok_or("a set of rights")?;
     let page = Some(Fpage::new(0x1000, 12)?);
-    assert_eq!(rt; copy.unmap(Space::FIRST, page, rights, true), Err(IssueFault::Full));
+    assert_eq!(rt;
+        copy.unmap(Space::FIRST, page, rights, true),
+        Err(IssueFault::Full)
+    );
     assert_eq!(rt; copy.take(&[root_cut(0)?]), Ok(0));
     Ok(())
 }
