@@ -19,6 +19,9 @@ Lines of a script:
   processors N               makes a cluster of N processors (1 to 64); the first command, once
   map P S SEND BASE R FPAGE  at processor P, space S maps the fpage SEND into the receive window
                              FPAGE of space R; BASE is the send base
+  unmap P S SEND MODE        at processor P, space S takes SEND's rights from all that received its pages;
+                             MODE is keep, or flush for space S too
+  end P S                    at processor P, space S ends, for good
   rights P S ADDR            asks for the frames and the rights of space S at address ADDR
   served P S ADDR            asks for the frame that the page at ADDR of space S is served from
   send P I J                 makes a message of the operations of P's copy, in order of arrival,

@@ -26,6 +26,3 @@ pub use commands::Command;
 pub use faults::{GiveFault, IssueFault, MOST_OPERATIONS, TakeFault};
 pub use merging::merge_among;
 pub use replicas::Replica;
-
-#[cfg(test)]
-mod tests;

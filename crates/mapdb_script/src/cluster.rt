@@ -8,7 +8,9 @@ use crate::fault::LineFault;
 use crate::limits::MOST_PROCESSORS;
 use crate::lines::Line;
 use crate::messages::Message;
-use crate::replies::{Refusal, ended_text, records_text, revocations_text, rights_text, served_text, taken_text};
+use crate::replies::{
+    Refusal, ended_text, records_text, revocations_text, rights_text, served_text, taken_text,
+};
 use crate::turn_fault::TurnFault;
 use mapdb_facts::Space;
 use mapdb_fpage::{Fpage, MapItem, PAGE_BYTES, Rights};

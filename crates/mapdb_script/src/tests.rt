@@ -4,3 +4,4 @@ mod exchange;
 mod lines;
 mod rows;
 mod streams;
+mod unmapping;
