@@ -19,6 +19,8 @@ Lines of a script:
   processors N               makes a cluster of N processors (1 to 64); the first command, once
   map P S SEND BASE R FPAGE  at processor P, space S maps the fpage SEND into the receive window
                              FPAGE of space R; BASE is the send base
+  words P S FIRST SECOND R WINDOW
+                             as map, by the two words of a map item and the word of a window
   unmap P S SEND MODE        at processor P, space S takes SEND's rights from all that received its pages;
                              MODE is keep, or flush for space S too
   end P S                    at processor P, space S ends, for good
@@ -38,6 +40,8 @@ Words of a line:
   I, J, M     decimal; marks and messages count from 0
   BASE, ADDR  an address, in hexadecimal without a prefix
   FPAGE       ADDR/ORDER, the 2^ORDER bytes from ADDR on, with ORDER decimal; or `all`, or `nil`
+  FIRST, SECOND, WINDOW
+              a word of the kernel, in hexadecimal without a prefix
   SEND        FPAGE:RIGHTS, the rights as rwx with - for each one that is missing
 
 Example, where the window is larger than the fpage and the send base says where in it:

@@ -34,7 +34,7 @@ impl Rights {
         execute: true,
     };
 
-    /// The set that a fpage word's lowest bits stand for: 4 for read, 2 for write, 1 for execute. None from 8 on.
+    /// The set that an fpage word's lowest bits stand for: 4 for read, 2 for write, 1 for execute. None from 8 on.
     pub fn from_bits(bits: u8) -> Option<Rights>
         ensures { result ≡ rights_of_bits bits }
     {
@@ -49,7 +49,7 @@ impl Rights {
         }
     }
 
-    /// The bits of the set in a fpage word: 4 for read, 2 for write, 1 for execute.
+    /// The bits of the set in an fpage word: 4 for read, 2 for write, 1 for execute.
     pub fn bits(self) -> u8
         ensures { result ≡ bits_of self }
     {

@@ -1,4 +1,6 @@
-//! What outside tables say of places, rights and transfers.
+//! What outside tables say of places, rights, transfers and words.
+
+mod words;
 
 use crate::{Fpage, FpageFault, MapItem, Right, Rights, Transfer, transfer};
 use std::test::Fail;
@@ -8,7 +10,7 @@ fn place(addr: u64, s: u8) -> Result<Fpage, Fail> {
     Ok(Fpage::new(addr, s)?)
 }
 
-/// What is carried from a fpage with this send base into a window.
+/// What is carried from an fpage with this send base into a window.
 fn sent(page: Option<Fpage>, send_base: u32, window: Option<Fpage>) -> Option<(Fpage, Fpage)> {
     let item = MapItem {
         send_base,

@@ -4,7 +4,7 @@ use Rattle.std.specs.Str.{bytes_eq}
 use Rattle.mapdb_facts.specs.declared.names.Space.{Space}
 use Rattle.mapdb_script.specs.Lines.{without_return}
 use Rattle.mapdb_script.specs.Words.{words_of, one_of, two_of, three_of, four_of, six_of}
-use Rattle.mapdb_script.specs.Spellings.{◌>>=◌, or_fault, processor_at, mark_at, space_at, address_at, base_at, fpage_at, mode_at, send_at}
+use Rattle.mapdb_script.specs.Spellings.{◌>>=◌, or_fault, processor_at, mark_at, space_at, address_at, base_at, fpage_at, mode_at, send_at, item_at, window_at}
 use Rattle.mapdb_script.specs.declared.fault.LineFault.{LineFault}
 use Rattle.mapdb_script.specs.declared.fault.LineFault.TheVariants as fault
 use Rattle.mapdb_script.specs.declared.grammar.Keyword.{Keyword}
@@ -30,6 +30,17 @@ map_at words = do
   receiver ← space_at word.4
   window ← fpage_at word.5
   Ok (line.Map processor sender (record { send_base = base; page = send.0; rights = send.1 }) receiver window)
+
+-- words P S FIRST SECOND R WINDOW
+unfoldable pub words_map_at : List (List ℕ) → Result Line LineFault
+words_map_at words = do
+  word ← or_fault (six_of words) fault.Words
+  processor ← processor_at word.0
+  sender ← space_at word.1
+  item ← item_at word.2 word.3
+  receiver ← space_at word.4
+  window ← window_at word.5
+  Ok (line.Map processor sender item receiver window)
 
 -- unmap P S SEND MODE
 unfoldable pub unmapping_at : List (List ℕ) → Result Line LineFault
@@ -88,6 +99,7 @@ abbrev pub keyword_of : List ℕ → Option Keyword
 keyword_of word =
     if bytes_eq word (codes "processors") then Some keyword.Processors
     else (if bytes_eq word (codes "map") then Some keyword.Map
+    else (if bytes_eq word (codes "words") then Some keyword.Words
     else (if bytes_eq word (codes "unmap") then Some keyword.Unmap
     else (if bytes_eq word (codes "end") then Some keyword.End
     else (if bytes_eq word (codes "rights") then Some keyword.Rights
@@ -97,13 +109,14 @@ keyword_of word =
     else (if bytes_eq word (codes "merge") then Some keyword.Merge
     else (if bytes_eq word (codes "same") then Some keyword.Same
     else (if bytes_eq word (codes "covers") then Some keyword.Covers
-    else None))))))))))
+    else None)))))))))))
 
 -- what a line with this first word says, by the words behind it
 unfoldable pub line_at : Option Keyword → List (List ℕ) → Result Line LineFault
 line_at None words = Err fault.Unknown
 line_at (Some keyword.Processors) words = processors_at words
 line_at (Some keyword.Map) words = map_at words
+line_at (Some keyword.Words) words = words_map_at words
 line_at (Some keyword.Unmap) words = unmapping_at words
 line_at (Some keyword.End) words = ending_at words
 line_at (Some keyword.Rights) words = page_query_at words >>= λ query. Ok (line.Rights query.0 query.1 query.2)

@@ -28,3 +28,7 @@ address_digits = 8
 -- the most hexadecimal digits of a send base
 abbrev pub base_digits : ℕ
 base_digits = 8
+
+-- the most hexadecimal digits of a word of the kernel
+abbrev pub word_digits : ℕ
+word_digits = 8

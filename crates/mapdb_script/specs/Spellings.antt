@@ -4,11 +4,15 @@ use Rattle.std.specs.Str.{bytes_eq}
 use Rattle.mapdb_fpage.specs.Addresses.{place_at}
 use Rattle.mapdb_fpage.specs.Bounds.{address_limit}
 use Rattle.mapdb_fpage.specs.Place.{Place, whole}
+use Rattle.mapdb_fpage.specs.Words.{item_of_words, window_of_word}
+use Rattle.mapdb_fpage.specs.declared.items.MapItem.{MapItem}
 use Rattle.mapdb_fpage.specs.declared.places.FpageFault.{FpageFault}
 use Rattle.mapdb_fpage.specs.declared.right_sets.Rights.{Rights}
+use Rattle.mapdb_fpage.specs.declared.words.ItemFault.{ItemFault}
+use Rattle.mapdb_fpage.specs.declared.words.WordFault.{WordFault}
 use Rattle.mapdb_facts.specs.declared.names.Space.{Space}
-use Rattle.mapdb_script.specs.Faults.{page_fault}
-use Rattle.mapdb_script.specs.Limits.{decimal_digits, place_digits, address_digits, base_digits}
+use Rattle.mapdb_script.specs.Faults.{item_fault, page_fault, word_fault}
+use Rattle.mapdb_script.specs.Limits.{decimal_digits, place_digits, address_digits, base_digits, word_digits}
 use Rattle.mapdb_script.specs.Words.{cut_at, number_of}
 use Rattle.mapdb_script.specs.declared.fault.LineFault.{LineFault}
 use Rattle.mapdb_script.specs.declared.fault.LineFault.TheVariants as fault
@@ -97,3 +101,30 @@ send_at word = do
   page ← fpage_at part.0
   rights ← rights_at part.1
   Ok (page, rights)
+
+-- a word of the kernel
+abbrev pub word_at : List ℕ → Result ℕ LineFault
+word_at word = or_fault (number_of 16 word_digits (2 ^ 32 - 1) word) fault.Number
+
+-- a map item, or the fault of its words
+abbrev pub or_item_fault : Result MapItem ItemFault → Result MapItem LineFault
+or_item_fault (Ok item) = Ok item
+or_item_fault (Err f) = Err (item_fault f)
+
+-- a map item: its two words, which are both spelled before the item is looked at
+unfoldable pub item_at : List ℕ → List ℕ → Result MapItem LineFault
+item_at first second = do
+  first ← word_at first
+  second ← word_at second
+  or_item_fault (item_of_words first second)
+
+-- a receive window, or the fault of its word
+abbrev pub or_word_fault : Result (Option Place) WordFault → Result (Option Place) LineFault
+or_word_fault (Ok window) = Ok window
+or_word_fault (Err f) = Err (word_fault f)
+
+-- a receive window: its word
+unfoldable pub window_at : List ℕ → Result (Option Place) LineFault
+window_at word = do
+  value ← word_at word
+  or_word_fault (window_of_word value)

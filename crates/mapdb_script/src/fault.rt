@@ -3,7 +3,7 @@
 ghost use Rattle.std.specs.Prelude.{◌≡◌};
 
 use crate::reading::ReadFault;
-use mapdb_fpage::FpageFault;
+use mapdb_fpage::{FpageFault, ItemFault, WordFault};
 use std::alloc::AllocError;
 use thiserror::Error;
 
@@ -20,15 +20,23 @@ pub enum LineFault {
     Words,
     /// A number is not spelled as one, or is too great.
     Number,
-    /// A fpage or a send fpage is not spelled as one.
+    /// An fpage or a send fpage is not spelled as one.
     PageSyntax,
-    /// The order of a fpage is below that of a page.
+    /// The words of a map item are those of a grant item.
+    Grant,
+    /// The words of a map item are those of another item.
+    NotMapItem,
+    /// Bits of a map item's first word that are to be zero are set.
+    ReservedBits,
+    /// The reserved bit of a map item's second word is set.
+    ReservedBit,
+    /// The order of an fpage is below that of a page.
     TooSmall,
-    /// The order of a fpage is above that of the complete address space.
+    /// The order of an fpage is above that of the complete address space.
     TooLarge,
-    /// The address of a fpage lies beyond the address space.
+    /// The address of an fpage lies beyond the address space.
     OutOfSpace,
-    /// The address of a fpage is no multiple of its size.
+    /// The address of an fpage is no multiple of its size.
     Unaligned,
     /// Rights are not spelled by three characters.
     Rights,
@@ -56,6 +64,10 @@ impl LineFault {
             LineFault::Words => "words",
             LineFault::Number => "number",
             LineFault::PageSyntax => "page-syntax",
+            LineFault::Grant => "grant",
+            LineFault::NotMapItem => "not-map-item",
+            LineFault::ReservedBits => "reserved-bits",
+            LineFault::ReservedBit => "reserved-bit",
             LineFault::TooSmall => "too-small",
             LineFault::TooLarge => "too-large",
             LineFault::OutOfSpace => "out-of-space",
@@ -80,6 +92,34 @@ impl From<FpageFault> for LineFault {
             FpageFault::TooLarge => LineFault::TooLarge,
             FpageFault::OutOfSpace => LineFault::OutOfSpace,
             FpageFault::Unaligned => LineFault::Unaligned,
+        }
+    }
+}
+
+impl From<WordFault> for LineFault {
+    ghost use Rattle.mapdb_script.specs.Faults.{word_fault};
+
+    ghost from_gives = { λ f e. e ≡ word_fault f };
+
+    fn from(fault: WordFault) -> LineFault {
+        match fault {
+            WordFault::ReservedBit => LineFault::ReservedBit,
+            WordFault::Page(fault) => fault.into(),
+        }
+    }
+}
+
+impl From<ItemFault> for LineFault {
+    ghost use Rattle.mapdb_script.specs.Faults.{item_fault};
+
+    ghost from_gives = { λ f e. e ≡ item_fault f };
+
+    fn from(fault: ItemFault) -> LineFault {
+        match fault {
+            ItemFault::Grant => LineFault::Grant,
+            ItemFault::NotMapItem => LineFault::NotMapItem,
+            ItemFault::ReservedBits => LineFault::ReservedBits,
+            ItemFault::Word(fault) => fault.into(),
         }
     }
 }

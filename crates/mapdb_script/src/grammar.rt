@@ -3,11 +3,11 @@
 ghost use Rattle.std.specs.Prelude.{◌≡◌};
 ghost use Rattle.mapdb_script.specs.Lines.{without_return};
 ghost use Rattle.mapdb_script.specs.Words.{words_of};
-ghost use Rattle.mapdb_script.specs.Grammar.{processors_at, map_at, unmapping_at, ending_at, page_query_at, sending_at, delivery_at, pair_at, keyword_of, is_comment, line_at, said_by};
+ghost use Rattle.mapdb_script.specs.Grammar.{processors_at, map_at, words_map_at, unmapping_at, ending_at, page_query_at, sending_at, delivery_at, pair_at, keyword_of, is_comment, line_at, said_by};
 
 use crate::fault::LineFault;
 use crate::lines::Line;
-use crate::spellings::{address, base, fpage, mark, mode, processor, send, space};
+use crate::spellings::{address, base, fpage, item, mark, mode, processor, send, space, window};
 use crate::words::{four_words, next_word, one_word, six_words, three_words, two_words};
 use mapdb_facts::Space;
 use mapdb_fpage::MapItem;
@@ -19,6 +19,8 @@ enum Keyword {
     Processors,
     /// `map`.
     Map,
+    /// `words`.
+    Words,
     /// `unmap`.
     Unmap,
     /// `end`.
@@ -81,6 +83,22 @@ fn map_line(words: &[u8]) -> Result<Line, LineFault>
         rights,
     };
     Ok(Line::Map(at, sender, item, receiver, window))
+}
+
+/// `words P S FIRST SECOND R WINDOW`.
+#[tactic(auto, unfolding(crate::specs::Grammar::words_map_at))]
+fn words_map_line(words: &[u8]) -> Result<Line, LineFault>
+    ensures { result ≡ words_map_at (words_of words.now) }
+{
+    let Some((at, sender, first, second, receiver, taken)) = six_words(words) else {
+        return Err(LineFault::Words);
+    };
+    let at = processor(at)?;
+    let sender = space(sender)?;
+    let offered = item(first, second)?;
+    let receiver = space(receiver)?;
+    let taken = window(taken)?;
+    Ok(Line::Map(at, sender, offered, receiver, taken))
 }
 
 /// `unmap P S SEND MODE`.
@@ -173,6 +191,8 @@ fn keyword_of(word: &[u8]) -> Option<Keyword>
         Some(Keyword::Processors)
     } else if word == b"map".as_slice() {
         Some(Keyword::Map)
+    } else if word == b"words".as_slice() {
+        Some(Keyword::Words)
     } else if word == b"unmap".as_slice() {
         Some(Keyword::Unmap)
     } else if word == b"end".as_slice() {
@@ -215,6 +235,7 @@ fn line_of(keyword: Option<Keyword>, words: &[u8]) -> Result<Line, LineFault>
         None => Err(LineFault::Unknown),
         Some(Keyword::Processors) => processors_line(words),
         Some(Keyword::Map) => map_line(words),
+        Some(Keyword::Words) => words_map_line(words),
         Some(Keyword::Unmap) => unmapping_line(words),
         Some(Keyword::End) => ending_line(words),
         Some(Keyword::Rights) => {

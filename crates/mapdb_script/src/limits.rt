@@ -20,3 +20,6 @@ pub const ADDRESS_DIGITS: usize = 8;
 
 /// The most hexadecimal digits of a send base.
 pub const BASE_DIGITS: usize = 8;
+
+/// The most hexadecimal digits of a word of the kernel.
+pub const WORD_DIGITS: usize = 8;

@@ -9,7 +9,7 @@ pub enum Line {
     /// `processors N`: a cluster of so many copies.
     Processors(u8),
     /// `map P S SEND BASE R FPAGE`: at processor P, space S offers an item to space R, which takes it into a window,
-    /// or into nil.
+    /// or into nil. `words P S FIRST SECOND R WINDOW` says it by the words of the item and of the window.
     Map(u8, Space, MapItem, Space, Option<Fpage>),
     /// `unmap P S SEND MODE`: at processor P, space S takes rights of a part of it from all that received it, and with
     /// `flush`, which is true here, from itself too.

@@ -1,14 +1,14 @@
 //! How the words of a line are spelled.
 
 ghost use Rattle.std.specs.Prelude.{◌≡◌};
-ghost use Rattle.mapdb_script.specs.Spellings.{decimal_at, processor_at, mark_at, space_at, address_at, base_at, letter_at, rights_at, mode_at, place_by, fpage_at, send_at};
+ghost use Rattle.mapdb_script.specs.Spellings.{decimal_at, processor_at, mark_at, space_at, address_at, base_at, letter_at, rights_at, mode_at, place_by, fpage_at, send_at, word_at, item_at, window_at};
 
 use crate::fault::LineFault;
-use crate::limits::{ADDRESS_DIGITS, BASE_DIGITS, DECIMAL_DIGITS, PLACE_DIGITS};
+use crate::limits::{ADDRESS_DIGITS, BASE_DIGITS, DECIMAL_DIGITS, PLACE_DIGITS, WORD_DIGITS};
 use crate::number::number;
 use crate::words::cut;
 use mapdb_facts::Space;
-use mapdb_fpage::{ADDRESS_LIMIT, Fpage, Rights};
+use mapdb_fpage::{ADDRESS_LIMIT, Fpage, MapItem, Rights};
 
 /// A processor, or how many there are: a decimal number of at most 255.
 pub fn processor(word: &[u8]) -> Result<u8, LineFault>
@@ -149,4 +149,35 @@ pub fn mode(word: &[u8]) -> Result<bool, LineFault>
     } else {
         Err(LineFault::Mode)
     }
+}
+
+/// A word of the kernel, in hexadecimal digits.
+fn word(word: &[u8]) -> Result<u32, LineFault>
+    ensures { result ≡ word_at word.now }
+{
+    match number(16, WORD_DIGITS, u32::MAX as u64, word) {
+        Some(n) => Ok(n as u32),
+        None => Err(LineFault::Number),
+    }
+}
+
+/// A map item, by its two words.
+#[tactic(auto, unfolding(crate::specs::Spellings::item_at))]
+pub fn item(first: &[u8], second: &[u8]) -> Result<MapItem, LineFault>
+    ensures { result ≡ item_at first.now second.now }
+{
+    let first = word(first)?;
+    let second = word(second)?;
+    let item = MapItem::from_words([first, second])?;
+    Ok(item)
+}
+
+/// A receive window, by its word.
+#[tactic(auto, unfolding(crate::specs::Spellings::window_at))]
+pub fn window(spelled: &[u8]) -> Result<Option<Fpage>, LineFault>
+    ensures { result ≡ window_at spelled.now }
+{
+    let value = word(spelled)?;
+    let window = Fpage::window_from_word(value)?;
+    Ok(window)
 }

@@ -5,3 +5,4 @@ mod lines;
 mod rows;
 mod streams;
 mod unmapping;
+mod words;

@@ -81,12 +81,13 @@ fn errors_that_fail_change_nothing(rt: HostRuntime) {
 
 #[test]
 fn words_that_clap_refuses(rt: HostRuntime) -> Result<(), Fail> {
-    let cases: [(&[&str], &str); 8] = [
+    let cases: [(&[&str], &str); 9] = [
         (&["l4map"], "requires a subcommand"),
         (&["l4map", "walk"], "unrecognized subcommand 'walk'"),
         (&["l4map", "run", "script"], "unexpected argument 'script'"),
         (&["l4map", "--fast", "run"], "unexpected argument '--fast'"),
         (&["l4map", "help"], "rights P S ADDR"),
+        (&["l4map", "help"], "words P S FIRST SECOND R WINDOW"),
         (&["l4map", "--help"], "rights P S ADDR"),
         (&["l4map", "help", "run"], "rights P S ADDR"),
         (&["l4map", "run", "-h"], "rights P S ADDR"),

@@ -30,7 +30,7 @@ pub fn writes(
 }
 
 /// Runs a script that stops at a faulty line, and writes this.
-fn stops(
+pub fn stops(
     rt: &impl Abort,
     alloc: Global,
     script: &str,
