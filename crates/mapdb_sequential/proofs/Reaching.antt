@@ -1,0 +1,89 @@
+-- An Unmap reaches all that its issuer saw.
+use Rattle.std.proofs.Common.{◌≡◌, ℕ, zero, suc, Bool, true, false, Some, refl, sym, subst, ◌∙◌, inl, inr}
+use Rattle.std.specs.Prelude.{◌&&◌, not}
+use Rattle.std.proofs.lemmas.Bool.{and_parts, cases_Bool, false≢true}
+use Rattle.mapdb_fpage.proofs.Booleans.{same_test}
+use Rattle.mapdb_fpage.specs.Place.{is_page}
+use Rattle.mapdb_fpage.specs.RightSets.{includes}
+use Rattle.mapdb_fpage.specs.declared.right_sets.Right.{Right}
+use Rattle.mapdb_facts.proofs.Atoms.{atom_kept}
+use Rattle.mapdb_facts.proofs.SameNames.{some_same}
+use Rattle.mapdb_facts.specs.Names.{is_root}
+use Rattle.mapdb_facts.specs.State.{Rev, State, state_of}
+use Rattle.mapdb_facts.specs.declared.names.RecordId.{RecordId}
+use Rattle.mapdb_facts.specs.declared.operations.Record.{Record}
+use Rattle.mapdb_replica.specs.Unmap.{unmap_candidates}
+use Rattle.mapdb_replica.specs.declared.pieces.Holder.{Holder}
+use Rattle.mapdb_rights.proofs.Backed.{backing}
+use Rattle.mapdb_rights.proofs.Steps.{has_right-root}
+use Rattle.mapdb_rights.specs.Right.{has_right, source_page}
+use Rattle.mapdb_sequential.proofs.Forms.{formed_has_form}
+use Rattle.mapdb_sequential.proofs.Places.{lies_place}
+use Rattle.mapdb_sequential.proofs.StateSteps.{IsFormed}
+use Rattle.mapdb_sequential.proofs.TakenPages.{IsTakenAt}
+use Rattle.mapdb_sequential.proofs.UnmapLists.{sound_cuts, take_unmap}
+use Rattle.mapdb_sequential.specs.Reaching.{ComesFrom, HasNoneBelow, UnmapReaches}
+
+-- what is cut is not had
+not_and_not : (a b : Bool) → b ≡ true → (a && not b) ≡ true → ⊥
+not_and_not true true e h = false≢true h
+not_and_not false b e h = false≢true h
+not_and_not true false e h = false≢true e
+
+cut_none : (S : State) (id : RecordId) (page : ℕ) (right : Right) → S.is_cut id page right ≡ true → has_right S id page right ≡ true → ⊥
+cut_none S id page right cut has =
+    elim (cases_Bool (is_root id)) [
+      | inl top ↦ not_and_not (is_page page) (S.is_cut id page right) cut (sym (has_right-root S id page right top) ∙ has)
+      | inr other ↦
+          let b = backing S id page right other has in
+          let parts = and_parts (includes b.r.rights right && not (S.is_cut id page right)) (not (S.is_ended b.r.space)) b.allowed in
+          not_and_not (includes b.r.rights right) (S.is_cut id page right) cut parts.0
+    ]
+
+-- a right that is had below is had above
+had_above : (S : State) (steps : ℕ) (id : RecordId) (page : ℕ) (top : RecordId) (at : ℕ) (right : Right) → ComesFrom S steps id page top at
+    → has_right S id page right ≡ true → has_right S top at right ≡ true
+had_above S zero id page top at right (same, there) has = subst (λ (x : RecordId). has_right S x at right ≡ true) same
+    (subst (λ p. has_right S id p right ≡ true) there has)
+had_above S (suc steps) id page top at right (other, r, held, up) has =
+    let b = backing S id page right other has in
+    let is : b.r ≡ r = some_same b.r r (sym b.held ∙ held) in
+    had_above S steps r.parent (source_page r page) top at right up
+    (subst (λ (x : Record). has_right S x.parent (source_page x page) right ≡ true) is b.parent_has)
+
+none_below : (S : State) (top : RecordId) (at : ℕ) (right : Right) → S.is_cut top at right ≡ true → HasNoneBelow S top at right
+none_below S top at right cut steps id page leads =
+    same_test (has_right S id page right) false (λ h. absurd (cut_none S top at right cut (had_above S steps id page top at right leads h)))
+    (λ h. absurd (false≢true h))
+
+pub unmap_reaches : UnmapReaches
+unmap_reaches ops space part rights flush all places place S takes right named = record {
+  children = λ id child page sees.
+      (let at = lies_place (state_of ops) child.parent (source_page child page) sees.parent_lies in
+      none_below S id page right (taken id page (record { id = child.parent; place = at.0 })
+      (record {
+        named = named;
+        into = sees.parent_into;
+        place = at.1;
+        which = inl (child, record { held = sees.held; parent = refl; inside = sees.inside; from_holder = at.2; from_part = sees.from_part });
+      })));
+  own = λ flushed id page sees.
+      (let at = lies_place (state_of ops) id page sees.lies in
+      none_below S id page right (taken id page (record { id = id; place = at.0 })
+      (record {
+        named = named;
+        into = sees.into;
+        place = at.1;
+        which = inr (record { flushed = flushed; is = refl; inside = at.2; in_part = sees.in_part });
+      })));
+}
+  where
+    form : IsFormed ops
+    form = formed_has_form ops all places
+
+    taken : (id : RecordId) (page : ℕ) (holder : Holder) → IsTakenAt (state_of ops) space part rights flush id page right holder
+        → S.is_cut id page right ≡ true
+    taken id page holder is =
+        takes id page right (atom_kept (unmap_candidates ops space (Some part) rights flush) (Rev id page right)
+        (sound_cuts ops form space part place rights flush)
+        (take_unmap ops form space part place rights flush id page right holder is))

@@ -1,0 +1,5 @@
+pub mod Tree
+pub mod Held
+pub mod Reaching
+pub mod Steps
+pub mod Parts
