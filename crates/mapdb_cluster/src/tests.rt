@@ -8,6 +8,8 @@ use std::alloc::Global;
 use std::process::Abort;
 use std::test::Fail;
 
+mod copies;
+
 /// The space of this number.
 fn space(number: u16) -> Space {
     Space { number }
@@ -131,7 +133,7 @@ fn four_messages(rt: &impl Abort, alloc: Global) -> Result<Cluster, Fail> {
 }
 
 /// Every order of four messages.
-const ORDERS: [[u64; 4]; 24] = [
+const ORDERS: [[u32; 4]; 24] = [
     [0, 1, 2, 3],
     [0, 1, 3, 2],
     [0, 2, 1, 3],
@@ -159,10 +161,10 @@ const ORDERS: [[u64; 4]; 24] = [
 ];
 
 /// Asserts that copy 1 looks as copy 0 does once it took the four messages in this order.
-fn expect_delivered(rt: &impl Abort, alloc: Global, order: &[u64; 4]) -> Result<(), Fail> {
+fn expect_delivered(rt: &impl Abort, alloc: Global, order: &[u32; 4]) -> Result<(), Fail> {
     let mut cluster = four_messages(rt, alloc)?;
     for message in order {
-        assert_eq!(rt; cluster.step(&deliver(*message)), Reply::Taken(1));
+        assert_eq!(rt; cluster.step(&deliver(*message as u64)), Reply::Taken(1));
     }
     let (copy, other) = (cluster.copy(0), cluster.copy(1));
     assert!(rt; copy.ok_or("copy 0")?.same(other.ok_or("copy 1")?));
