@@ -21,7 +21,8 @@ pub kind_test : (word kind : ℕ) → nat_eq (bit_and word 14) (kind * 2) ≡ na
 kind_test word kind = ap (λ k. nat_eq k (kind * 2)) (kind_under_mask word) ∙ twice_same (kind_of word) kind
 
 -- parts of a word that lie apart add up
-pub joined : (first size bits : ℕ) → size < 64 → bits < 8 → bit_or (bit_or (first * 4096) (size * 16 % 4294967296)) bits ≡ first * 4096 + 16 * size + bits
+pub joined : (first size bits : ℕ) → size < 64 → bits < 8
+    → bit_or (bit_or (first * 4096) (size * 16 % 4294967296)) bits ≡ first * 4096 + 16 * size + bits
 joined first size bits size_below bits_below =
     let whole : size * 16 % 4294967296 ≡ size * 16 = shl_whole size 6 4 32 size_below (omega arith) in
     let low : size * 16 < 4096 = omega arith in

@@ -17,14 +17,21 @@ use Rattle.mapdb_fpage.proofs.Meets.{multiple}
 use Rattle.mapdb_fpage.proofs.WordParts.{rights_below, size_below}
 
 -- the parts of a sum
-parts : (first size bits : ℕ) → size < 64 → bits < 8 → (base_in (first * 4096 + 16 * size + bits) ≡ first * 4096) × (size_in (first * 4096 + 16 * size + bits) ≡ size) × ((first * 4096 + 16 * size + bits) / 8 % 2 ≡ 0)
+parts : (first size bits : ℕ) → size < 64 → bits < 8
+    → (base_in (first * 4096 + 16 * size + bits) ≡ first * 4096)
+    × (size_in (first * 4096 + 16 * size + bits) ≡ size)
+    × ((first * 4096 + 16 * size + bits) / 8 % 2 ≡ 0)
 parts first size bits size_below bits_below = (omega arith, omega arith, omega arith)
 
-lowest : (first size bits : ℕ) → bits < 8 → ((first * 4096 + 16 * size + bits) / 4 % 2 ≡ bits / 4 % 2) × ((first * 4096 + 16 * size + bits) / 2 % 2 ≡ bits / 2 % 2) × ((first * 4096 + 16 * size + bits) / 1 % 2 ≡ bits / 1 % 2)
+lowest : (first size bits : ℕ) → bits < 8
+    → ((first * 4096 + 16 * size + bits) / 4 % 2 ≡ bits / 4 % 2)
+    × ((first * 4096 + 16 * size + bits) / 2 % 2 ≡ bits / 2 % 2)
+    × ((first * 4096 + 16 * size + bits) / 1 % 2 ≡ bits / 1 % 2)
 lowest first size bits bits_below = (omega arith, omega arith, omega arith)
 
 -- the rights of their own bits
-rights_of_own : (read write execute : Bool) → rights_in ((if read then 4 else 0) + (if write then 2 else 0) + (if execute then 1 else 0)) ≡ record { read = read; write = write; execute = execute }
+rights_of_own : (read write execute : Bool)
+    → rights_in ((if read then 4 else 0) + (if write then 2 else 0) + (if execute then 1 else 0)) ≡ record { read = read; write = write; execute = execute }
 rights_of_own true true true = refl
 rights_of_own true true false = refl
 rights_of_own true false true = refl
@@ -76,14 +83,18 @@ region_of_size base size least =
 
 -- the complete space begins at page 0
 is_whole : (place : Place) → place.first_page ≡ 0 → place.order ≡ 32 → place ≡ whole
-is_whole place first order = ap (λ (f : ℕ). let p : Place = record { first_page = f; order = place.order } in p) first ∙ ap (λ (o : ℕ). let p : Place = record { first_page = 0; order = o } in p) order
+is_whole place first order =
+    ap (λ (f : ℕ). let p : Place = record { first_page = f; order = place.order } in p) first
+    ∙ ap (λ (o : ℕ). let p : Place = record { first_page = 0; order = o } in p) order
 
-region_comes_back : (place : Place) (t : Bool) → IsPlace place → nat_eq place.order 32 ≡ t → region (place.first_page * 4096) (if t then 1 else place.order) ≡ Ok (Some place)
+region_comes_back : (place : Place) (t : Bool) → IsPlace place → nat_eq place.order 32 ≡ t
+    → region (place.first_page * 4096) (if t then 1 else place.order) ≡ Ok (Some place)
 region_comes_back place true is h =
     let order : place.order ≡ 32 = eqb-true place.order 32 h in
     let pages : page_total place ≡ 1048576 = ap (λ o. 2 ^ (o - 12)) order in
     let first : place.first_page ≡ 0 = omega (arith, is.in_space, pages) in
-    ap (λ f. region (f * 4096) 1) first ∙ ap (λ (p : Place). let r : Result (Option Place) WordFault = Ok (Some p) in r) (sym (is_whole place first order))
+    ap (λ f. region (f * 4096) 1) first
+    ∙ ap (λ (p : Place). let r : Result (Option Place) WordFault = Ok (Some p) in r) (sym (is_whole place first order))
 region_comes_back place false is h = region_of_size (place.first_page * 4096) place.order is.at_least_a_page ∙ ap some_place (place_at_own place is)
 
 pub words_come_back : WordsComeBack

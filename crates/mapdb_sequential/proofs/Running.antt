@@ -4,7 +4,7 @@ use Rattle.std.specs.Prelude.{None, Result, Ok, Err, if◌then◌else◌, false}
 use Rattle.mapdb_fpage.specs.Transfer.{transfer_of}
 use Rattle.mapdb_facts.specs.Names.{is_first_space}
 use Rattle.mapdb_facts.specs.declared.operations.Op.{Op}
-use Rattle.mapdb_replica.specs.Commands.{command_outcome}
+use Rattle.mapdb_replica.specs.Commands.{IsCommand, command_outcome}
 use Rattle.mapdb_replica.specs.Replica.{Log, empty, with_issued}
 use Rattle.mapdb_replica.specs.declared.commands.Command.{Command}
 use Rattle.mapdb_replica.specs.declared.commands.Command.TheVariants.{End, Map, Unmap}
@@ -16,7 +16,7 @@ use Rattle.mapdb_sequential.proofs.Settled.{kept_after, settled_start}
 use Rattle.mapdb_sequential.proofs.Starting.{shows_start}
 use Rattle.mapdb_sequential.proofs.StateSteps.{IsKept}
 use Rattle.mapdb_sequential.proofs.Stepping.{Reflects, end_step, map_step, unmap_step}
-use Rattle.mapdb_sequential.specs.Plain.{After, AreCommands, GoesOn, IsCommand, IsPlain, refusal_of}
+use Rattle.mapdb_sequential.specs.Plain.{After, AreCommands, GoesOn, IsPlain, refusal_of}
 use Rattle.mapdb_tree.specs.Tree.{Tree, first_tree}
 use Rattle.mapdb_tree.specs.declared.faults.TreeFault.{TreeFault}
 

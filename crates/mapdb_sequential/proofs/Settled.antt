@@ -16,6 +16,7 @@ use Rattle.mapdb_facts.specs.declared.names.Space.{Space}
 use Rattle.mapdb_facts.specs.declared.operations.Op.{Op}
 use Rattle.mapdb_facts.specs.declared.operations.Op.TheVariants.{Closed}
 use Rattle.mapdb_facts.specs.declared.operations.Record.{Record}
+use Rattle.mapdb_replica.specs.Commands.{IsCommand}
 use Rattle.mapdb_replica.specs.Issue.{map_candidates}
 use Rattle.mapdb_replica.specs.Unmap.{source_place, unmap_candidates}
 use Rattle.mapdb_replica.specs.declared.commands.Command.{Command}
@@ -24,7 +25,6 @@ use Rattle.mapdb_sequential.proofs.Issued.{candidates, carries, issued, state_of
 use Rattle.mapdb_sequential.proofs.MapLists.{map_cuts, new_whole}
 use Rattle.mapdb_sequential.proofs.StateSteps.{IsKept, IsKnown, IsSettled, IsTransfer}
 use Rattle.mapdb_sequential.proofs.UnmapLists.{only_cuts, unmap_targets}
-use Rattle.mapdb_sequential.specs.Plain.{IsCommand}
 
 -- what is joined to a settled state
 known_more : (S T : State) (id : RecordId) → IsKnown S id → IsKnown (join S T) id

@@ -82,7 +82,10 @@ handed_held None from rights = None
 handed_held (Some held) from rights =
     if is_empty (common held.node.rights rights)
     then None
-    else Some (record { node = record { frame = held.node.frame; rights = common held.node.rights rights; parent = Some from }; depth = held.depth + 1 })
+    else Some (record {
+      node = record { frame = held.node.frame; rights = common held.node.rights rights; parent = Some from };
+      depth = held.depth + 1;
+    })
 
 -- the page is one of the space, from one number up to before another
 abbrev pub is_between : Space → ℕ → ℕ → Page → Bool

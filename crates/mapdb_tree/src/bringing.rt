@@ -102,7 +102,8 @@ impl Nodes {
     ) -> Result<Vec<(Page, Held)>, AllocError>
         ensures { IfOk result (λ found. (page : Page) (old : Option Held) → put_over found.items page old ≡
             (if is_between receiver carried.now.target.first_page (carried.now.target.first_page + page_total carried.now.target) page
-            then first_held_of (handed_held (held_at self.now (page_behind sender carried.now page.number)) (page_behind sender carried.now page.number) carried.now.rights) old
+            then first_held_of (handed_held (held_at self.now (page_behind sender carried.now page.number))
+            (page_behind sender carried.now page.number) carried.now.rights) old
             else old)) }
     {
         let mut found = Vec::new(alloc);
@@ -142,7 +143,8 @@ impl Nodes {
         requires forest { IsForest (held_at self.old) }
         requires free { (ended : List Space) → occupied (tree_in self.old ended) sender carried.now receiver ≡ None }
         ensures forest { OnOk result (IsForest (held_at self.new)) }
-        ensures mapped { OnOk result ((ended : List Space) → AreSame (mapped (tree_in self.old ended) sender carried.now receiver) (tree_in self.new ended)) }
+        ensures mapped { OnOk result ((ended : List Space) →
+            AreSame (mapped (tree_in self.old ended) sender carried.now receiver) (tree_in self.new ended)) }
     {
         let nodes = self.brought(alloc, sender, carried, receiver)?;
         self.put_all(nodes.as_slice())

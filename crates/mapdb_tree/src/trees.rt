@@ -38,7 +38,8 @@ impl Tree {
     ghost use Rattle.mapdb_facts.specs.Names.{is_first_space};
     ghost use Rattle.mapdb_tree.specs.Held.{has_failed, tree_of};
     ghost use Rattle.mapdb_tree.specs.Parts.{IsClosed, space_refusal};
-    ghost use Rattle.mapdb_tree.specs.Steps.{AfterMap, AfterUnmap, Answers, AreSame, answer_of, end_refusal, map_occupied, map_refusal, occupied_refusal, unmap_refusal};
+    ghost use Rattle.mapdb_tree.specs.Steps.{AfterMap, AfterUnmap, Answers, AreSame, answer_of};
+    ghost use Rattle.mapdb_tree.specs.Steps.{end_refusal, map_occupied, map_refusal, occupied_refusal, unmap_refusal};
     ghost use Rattle.mapdb_tree.specs.Tree.{IsEnded, IsUnmapped, first_tree};
 
     /// The tree at the start. It takes no memory.
@@ -71,7 +72,8 @@ impl Tree {
         window: Option<Fpage>,
     ) -> Result<(), TreeFault>
         ensures { Answers (has_failed self.old) (map_refusal (tree_of self.old) sender (transfer_of item.now window) receiver)
-            (AfterMap (tree_of self.old) sender (transfer_of item.now window) receiver) result (has_failed self.new) (tree_of self.old) (tree_of self.new) }
+            (AfterMap (tree_of self.old) sender (transfer_of item.now window) receiver)
+            result (has_failed self.new) (tree_of self.old) (tree_of self.new) }
     {
         if let Some(fault) = self.map_refusal(sender, receiver) {
             return Err(fault);
@@ -181,7 +183,8 @@ impl Tree {
         flush: bool,
     ) -> Result<(), TreeFault>
         requires { has_failed self.old ≡ false }
-        ensures { Answers false None (IsUnmapped (tree_of self.old) space part.now rights flush) result (has_failed self.new) (tree_of self.old) (tree_of self.new) }
+        ensures { Answers false None (IsUnmapped (tree_of self.old) space part.now rights flush)
+            result (has_failed self.new) (tree_of self.old) (tree_of self.new) }
     {
         if let Err(_) = self.nodes.take(self.alloc, space, part, rights, flush) {
             self.failed = true;

@@ -20,6 +20,7 @@ enum Row {
     Map(Spot, Rights, Spot),
     Unmap(Spot, Rights),
     Flush(Spot, Rights),
+    End(u16),
 }
 
 /// A place of a space.
@@ -57,6 +58,10 @@ fn run(tree: &mut Tree, plain: &mut PlainTree, row: &Row) -> Result<(), Fail> {
             tree.unmap(space(from.space), Some(part), *rights, true)?;
             plain.unmap(space(from.space), &part, *rights, true)?;
         }
+        Row::End(number) => {
+            tree.end(space(*number))?;
+            plain.unmap(space(*number), &Fpage::complete(), Rights::ALL, true)?;
+        }
     }
     Ok(())
 }
@@ -69,7 +74,8 @@ fn agree(tree: &Tree, plain: &PlainTree) -> bool {
         && plain.agrees(tree, space(3), 0x40)
 }
 
-/// Four pages go down three spaces and one of them back to the second; then parts lose rights, and pages are mapped again.
+/// Four pages go down three spaces and one of them back to the second; then parts lose rights, the second of them
+/// ends, and pages are mapped again.
 #[test]
 fn the_plain_tree_agrees(rt: HostRuntime) -> Result<(), Fail> {
     let rows = [
@@ -87,6 +93,7 @@ fn the_plain_tree_agrees(rt: HostRuntime) -> Result<(), Fail> {
         Row::Map(spot_at(3, 0x41000, 12), WRITE, spot_at(1, 0x25000, 12)),
         Row::Unmap(spot_at(2, 0x30000, 14), WRITE),
         Row::Flush(spot_at(1, 0x22000, 12), Rights::ALL),
+        Row::End(2),
         Row::Unmap(spot_at(0, 0x10000, 13), WRITE),
         Row::Flush(spot_at(0, 0x13000, 12), READ_WRITE),
         Row::Map(spot_at(0, 0x10000, 14), READ_WRITE, spot_at(3, 0x44000, 14)),
