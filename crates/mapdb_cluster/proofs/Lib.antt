@@ -6,3 +6,10 @@ pub mod StepTells
 pub mod StepEvents
 pub mod NewCopies
 pub mod RunSteps
+pub mod Among
+pub mod Issuers
+pub mod Changing
+pub mod HonestSteps
+pub mod HonestRuns
+pub mod Leaving
+pub mod Alone

@@ -1,9 +1,9 @@
 -- Runs, one event after the other.
-use Rattle.std.proofs.Common.{◌≡◌, ℕ, zero, suc, ◌+◌, ◌<◌, Some, refl, sym, subst, ap, ◌∙◌, inl, inr, List, [], ◌∷◌, ◌++◌, drop, get_or, length, map, take, arith}
-use Rattle.std.specs.Prelude.{Option, None, false, is_some, slice_get, true}
+use Rattle.std.proofs.Common.{◌≡◌, ℕ, zero, suc, ◌+◌, ◌<◌, Some, refl, sym, ap, ◌∙◌, List, [], ◌∷◌, ◌++◌, get_or, length, take, arith}
+use Rattle.std.specs.Prelude.{Option, None, false, is_some}
 use Rattle.std.proofs.lemmas.Bool.{true≢false}
-use Rattle.std.proofs.lemmas.Option.{slice_get_read}
-use Rattle.mapdb_cluster.specs.Net.{Done, Net, event_done}
+use Rattle.mapdb_cluster.specs.Honest.{AllTrusted, IsTrusted}
+use Rattle.mapdb_cluster.specs.Net.{Net, event_done}
 use Rattle.mapdb_cluster.specs.Run.{Happens, Move, after, all_done, done_by, replies}
 use Rattle.mapdb_cluster.specs.Steps.{Steps, wanted}
 use Rattle.mapdb_cluster.specs.declared.events.Event.{Event}
@@ -27,6 +27,11 @@ next_of (first ∷ rest) zero event within is = ap (λ (e : Event). e ∷ []) (s
 next_of (first ∷ rest) (suc i) event within is =
     let next : suc i + 1 ≡ suc (i + 1) = omega arith in
     ap (λ n. take n (first ∷ rest)) next ∙ ap (λ (es : List Event). first ∷ es) (next_of rest i event (omega arith) is)
+
+-- one reply more that refuses no operation as bad, nor for a clash
+pub trusted_more : (told : List Reply) (reply : Reply) → AllTrusted told → IsTrusted reply → AllTrusted (told ++ reply ∷ [])
+trusted_more [] reply all one = (one, tt)
+trusted_more (first ∷ rest) reply all one = (all.0, trusted_more rest reply all.1 one)
 
 no_want : (o : Option ℕ) → is_some o ≡ false → o ≡ None
 no_want None h = refl

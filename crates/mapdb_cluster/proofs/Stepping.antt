@@ -33,7 +33,7 @@ part_gives : (xs : List Op) (n : ℕ) (atom : Atom) → HasAtom (take n xs) atom
 part_gives xs n atom has = subst (λ (ys : List Op). HasAtom ys atom) (take-append-drop n xs) (atom_left (take n xs) (drop n xs) atom has)
 
 -- a part of a sound list is sound
-part_sound : (held xs : List Op) (n : ℕ) → IsSound (held ++ xs) → IsSound (held ++ take n xs)
+pub part_sound : (held xs : List Op) (n : ℕ) → IsSound (held ++ xs) → IsSound (held ++ take n xs)
 part_sound held xs n sound r s in_r in_s same = sound r s (whole r in_r) (whole s in_s) same
   where
     whole : (t : _) → HasAtom (held ++ take n xs) (Rec t) → HasAtom (held ++ xs) (Rec t)

@@ -22,11 +22,14 @@ pub struct Cluster {
 }
 
 impl Model for Cluster {
+    ghost use Rattle.mapdb_cluster.specs.Kept.{IsKept};
     ghost use Rattle.mapdb_cluster.specs.Net.{Net};
 
     ghost Value = { Net };
 
     ghost view = { λ c. record { copies = c.copies.items; messages = c.messages.items } };
+
+    ghost invariant = { λ c. IsKept (record { copies = c.copies.items; messages = c.messages.items }) };
 }
 
 /// So many empty copies.
@@ -44,6 +47,7 @@ fn new_copies(alloc: Global, count: u8) -> Result<Vec<Replica>, AllocError>
 
 impl Cluster {
     ghost use Rattle.std.specs.Prelude.{◌≡◌, ◌<◌, ◌≤◌, IfOk, option_copied, slice_get};
+    ghost use Rattle.mapdb_cluster.specs.Honest.{IsHonest, IsTrusted};
     ghost use Rattle.mapdb_cluster.specs.Net.{new_net};
     ghost use Rattle.mapdb_cluster.specs.Steps.{Steps};
     ghost use Rattle.mapdb_cluster.specs.declared.events.Event.TheVariants as event;
@@ -64,14 +68,16 @@ impl Cluster {
 
     /// The copy of a processor, if there is one of this number.
     pub fn copy(&self, at: u8) -> Option<&Replica>
-        ensures { option_copied result ≡ slice_get self.now.copies at }
+        ensures found { option_copied result ≡ slice_get self.now.copies at }
+        ensures honest { IsHonest self.now }
     {
         self.copies.as_slice().get(at as usize)
     }
 
     /// Does a command at a processor.
     fn issue(&mut self, at: u8, command: &Command) -> Reply
-        ensures { Steps self.old (event.Issue at command.now) result self.new }
+        ensures steps { Steps self.old (event.Issue at command.now) result self.new }
+        ensures trusted { IsTrusted result }
     {
         let at = at as usize;
         if at >= self.copies.len() {
@@ -82,7 +88,8 @@ impl Cluster {
 
     /// Sends a message of a processor's operations.
     fn send(&mut self, from: u8, first: u32, end: u32) -> Reply
-        ensures { Steps self.old (event.Send from first end) result self.new }
+        ensures steps { Steps self.old (event.Send from first end) result self.new }
+        ensures trusted { IsTrusted result }
     {
         let from = from as usize;
         if from >= self.copies.len() {
@@ -103,7 +110,8 @@ impl Cluster {
 
     /// Delivers a message to a processor.
     fn deliver(&mut self, message: u64, to: u8) -> Reply
-        ensures { Steps self.old (event.Deliver message to) result self.new }
+        ensures steps { Steps self.old (event.Deliver message to) result self.new }
+        ensures trusted { IsTrusted result }
     {
         let to = to as usize;
         if to >= self.copies.len() {
@@ -118,7 +126,8 @@ impl Cluster {
 
     /// Joins one copy into another.
     fn join(&mut self, into: u8, from: u8) -> Reply
-        ensures { Steps self.old (event.Join into from) result self.new }
+        ensures steps { Steps self.old (event.Join into from) result self.new }
+        ensures trusted { IsTrusted result }
     {
         let (into, from) = (into as usize, from as usize);
         if into >= self.copies.len() || from >= self.copies.len() {
@@ -132,7 +141,8 @@ impl Cluster {
 
     /// Does one event, and answers the reply. A want of memory is a reply too, which tells what stands.
     pub fn step(&mut self, event: &Event) -> Reply
-        ensures { Steps self.old event.now result self.new }
+        ensures steps { Steps self.old event.now result self.new }
+        ensures trusted { IsTrusted result }
     {
         match *event {
             Event::Issue { at, command } => self.issue(at, &command),

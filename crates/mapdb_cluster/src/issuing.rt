@@ -1,6 +1,7 @@
 //! What a command at one copy is replied.
 
-ghost use Rattle.std.specs.Prelude.{◌≡◌};
+ghost use Rattle.std.specs.Prelude.{◌≡◌, true};
+ghost use Rattle.mapdb_facts.specs.WellFormed.{all_formed};
 ghost use Rattle.mapdb_replica.specs.Commands.{command_outcome};
 ghost use Rattle.mapdb_replica.specs.Replica.{map_outcome};
 ghost use Rattle.mapdb_replica.specs.Unmap.{end_outcome, unmap_outcome};
@@ -71,6 +72,16 @@ fn end(copy: &mut Replica, space: Space) -> Reply
 
 /// Does a command at a copy.
 pub(crate) fn issue(copy: &mut Replica, command: &Command) -> Reply
+    ensures commands { Commands command.now (command_outcome copy.old command.now) result copy.old copy.new }
+    ensures formed { all_formed copy.new.ops ≡ true }
+{
+    let reply = issue_by_kind(copy, command);
+    copy.prove_formed();
+    reply
+}
+
+/// Does a Map, an Unmap or the end of a space.
+fn issue_by_kind(copy: &mut Replica, command: &Command) -> Reply
     ensures { Commands command.now (command_outcome copy.old command.now) result copy.old copy.new }
 {
     match *command {

@@ -1,5 +1,7 @@
 //! The theorem about every run of a cluster, each law the contract of a function that does nothing.
 
+ghost use Rattle.mapdb_cluster.specs.Alone.{RunsAloneAreTrees};
+ghost use Rattle.mapdb_cluster.specs.Honest.{HonestRuns};
 ghost use Rattle.mapdb_cluster.specs.Laws.{CopiesAgree, JoinIsLeast, NoEscalation, SchedulesAreExact};
 
 /// In every run, each copy holds exactly the atoms that it held before and those that it took, in whatever order they
@@ -23,4 +25,17 @@ pub fn join_is_least()
 /// No record of a copy has a right that its parent lacks at the source page.
 pub fn no_escalation()
     ensures { NoEscalation }
+{}
+
+/// In every run without lists from outside, all that a copy holds and all that stands in a message was issued by a copy
+/// of the run, a record by that of the processor in its name. No two different records have one name, of one copy or of
+/// two; so no operation is refused as bad, nor for a clash.
+pub fn honest_runs()
+    ensures { HonestRuns }
+{}
+
+/// Commands issued at one processor alone, into empty destinations, give exactly the manual's sequential tree: each page of
+/// each space has the rights of the tree's node and no others, and is served with them.
+pub fn runs_alone_are_trees()
+    ensures { RunsAloneAreTrees }
 {}

@@ -31,6 +31,7 @@ impl Reply {
 
 impl Cluster {
     ghost use Rattle.std.specs.Prelude.{◌≡◌, IfOk, IfErr, OnOk};
+    ghost use Rattle.mapdb_cluster.specs.Honest.{AllTrusted};
     ghost use Rattle.mapdb_cluster.specs.Run.{after, all_done, replies};
     ghost use Rattle.mapdb_cluster.specs.Steps.{StopsAt};
 
@@ -38,6 +39,7 @@ impl Cluster {
     /// stops at the first want of memory.
     pub fn run(&mut self, events: &[Event]) -> Result<Vec<Reply>, RunFault>
         ensures replies { IfOk result (λ answer. answer.items ≡ replies self.old (all_done events.now)) }
+        ensures trusted { IfOk result (λ answer. AllTrusted answer.items) }
         ensures done { OnOk result (self.new ≡ after self.old (all_done events.now)) }
         ensures err { IfErr result (StopsAt self.old events.now self.new) }
     {

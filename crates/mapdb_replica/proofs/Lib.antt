@@ -24,5 +24,6 @@ pub mod SortedTurns
 pub mod NewTotals
 pub mod CutForms
 pub mod CutIssues
+pub mod FormedIssues
 pub mod Bounding
 pub mod CutCopies

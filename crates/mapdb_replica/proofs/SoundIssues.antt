@@ -132,7 +132,7 @@ holders_none records page rights flush (h ∷ rest) r has = by_part (atom_append
     by_part (inl here) later = within_none records rights flush h.id (meet h.place page) r here
     by_part (inr there) later = later there
 
-unmap_none : (ops : List Op) (space : Space) (page : Option Place) (rights : Rights) (flush : Bool) (r : Record) → HasAtom (unmap_candidates ops space page rights flush) (Rec r) → ⊥
+pub unmap_none : (ops : List Op) (space : Space) (page : Option Place) (rights : Rights) (flush : Bool) (r : Record) → HasAtom (unmap_candidates ops space page rights flush) (Rec r) → ⊥
 unmap_none ops space None rights flush r has = has
 unmap_none ops space (Some page) rights flush r has = by_rights (is_empty rights) has
   where
@@ -140,7 +140,7 @@ unmap_none ops space (Some page) rights flush r has = by_rights (is_empty rights
     by_rights true none = none
     by_rights false some = holders_none (records_of ops) page rights flush (holders (records_of ops) space) r some
 
-end_none : (space : Space) (r : Record) → HasAtom (Closed space ∷ []) (Rec r) → ⊥
+pub end_none : (space : Space) (r : Record) → HasAtom (Closed space ∷ []) (Rec r) → ⊥
 end_none space r (inl gives) = gives
 end_none space r (inr later) = later
 

@@ -60,6 +60,7 @@ impl Replica {
     ghost use Rattle.mapdb_facts.specs.Adding.{added};
     ghost use Rattle.mapdb_facts.specs.Facts.{state_of_facts};
     ghost use Rattle.mapdb_facts.specs.State.{state_of};
+    ghost use Rattle.mapdb_facts.specs.WellFormed.{all_formed};
     ghost use Rattle.mapdb_replica.specs.Giving.{IsNotGiven, given};
     ghost use Rattle.mapdb_replica.specs.Pairs.{page_rights};
     ghost use Rattle.mapdb_replica.specs.Replica.{empty, with_issued};
@@ -92,6 +93,13 @@ impl Replica {
         ensures { state_of_facts result.now ≡ state_of self.now.ops }
     {
         &self.facts
+    }
+
+    /// Each operation that is held is well-formed. This does nothing: it tells proofs so.
+    pub fn prove_formed(&self)
+        ensures { all_formed self.now.ops ≡ true }
+    {
+        let _ops = &self.ops;
     }
 
     /// Holds an operation that may be added and is new.

@@ -1,8 +1,9 @@
-use Rattle.std.proofs.Common.{◌≡◌, ◌∙◌, ◌++◌, ◌∷◌, [], List, ap, false, sym}
+use Rattle.std.proofs.Common.{◌≡◌, ◌∙◌, ◌++◌, ◌∷◌, [], List, ap, false, subst, sym}
 use Rattle.std.specs.Prelude.{is_some}
+use Rattle.mapdb_cluster.specs.Honest.{AllTrusted}
 use Rattle.mapdb_cluster.specs.Steps.{wanted}
 use Rattle.mapdb_cluster.specs.declared.events.Reply.{Reply}
-use Rattle.mapdb_cluster.proofs.RunSteps.{net-next, replies-next}
+use Rattle.mapdb_cluster.proofs.RunSteps.{net-next, replies-next, trusted_more}
 use Rattle.mapdb_cluster.proofs.clusters.Cluster.run.Goals as goal
 
 pub loop-done-preserved : goal.loop-done-preserved
@@ -11,6 +12,7 @@ loop-done-preserved c =
     let more : c.push_reserved.new.self.items ≡ c.loop-done.replies.items ++ c.step-reply.result ∷ [] =
     c.push_reserved.ensures.items ∙ ap (λ (rs : List Reply). rs ++ c.step-reply.result ∷ []) c.reserve.ensures.items in
     record {
-      stands = net-next c.args.self.now c.loop-done.self c.step-reply.new.self c.args.events.now c.loop-done.done c.index-events-done.result c.step-reply.result c.loop-done-test.true c.index-events-done.is c.loop-done.invariant.stands c.step-reply.ensures lasted;
-      told = replies-next c.args.self.now c.loop-done.self c.step-reply.new.self c.args.events.now c.loop-done.done c.index-events-done.result c.step-reply.result c.loop-done-test.true c.index-events-done.is c.loop-done.invariant.stands c.step-reply.ensures lasted c.loop-done.replies.items c.push_reserved.new.self.items c.loop-done.invariant.told more;
+      trusted = subst AllTrusted (sym more) (trusted_more c.loop-done.replies.items c.step-reply.result c.loop-done.invariant.trusted c.step-reply.ensures.trusted);
+      stands = net-next c.args.self.now c.loop-done.self c.step-reply.new.self c.args.events.now c.loop-done.done c.index-events-done.result c.step-reply.result c.loop-done-test.true c.index-events-done.is c.loop-done.invariant.stands c.step-reply.ensures.steps lasted;
+      told = replies-next c.args.self.now c.loop-done.self c.step-reply.new.self c.args.events.now c.loop-done.done c.index-events-done.result c.step-reply.result c.loop-done-test.true c.index-events-done.is c.loop-done.invariant.stands c.step-reply.ensures.steps lasted c.loop-done.replies.items c.push_reserved.new.self.items c.loop-done.invariant.told more;
     }

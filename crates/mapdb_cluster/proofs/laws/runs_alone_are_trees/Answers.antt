@@ -1,0 +1,5 @@
+use Rattle.mapdb_cluster.proofs.Alone.{runs_alone_are_trees}
+use Rattle.mapdb_cluster.proofs.laws.runs_alone_are_trees.Goals as goal
+
+pub returns : goal.returns
+returns c = runs_alone_are_trees
