@@ -1,5 +1,5 @@
 -- Which revocations are known.
-use Rattle.std.specs.Prelude.{◌≡◌, ◌↔◌, ◌<◌, ◌+◌, nat_le, nat_lt, not, ◌||◌, ℕ, Bool, true, false, ◌&&◌, Option, Some, None, IsTrue, refl}
+use Rattle.std.specs.Prelude.{◌≡◌, ◌↔◌, ◌<◌, ◌+◌, nat_le, nat_lt, not, ◌||◌, ℕ, Bool, true, false, ◌&&◌, Option, None, IsTrue, refl}
 use Rattle.std.proofs.Common.{sym, ◌∙◌, ap, subst, arith}
 use Rattle.std.proofs.lemmas.Bool.Decides.{nat_tests}
 use Rattle.mapdb_fpage.specs.Place.{page_total}
@@ -7,19 +7,17 @@ use Rattle.std.proofs.lemmas.Nat.{pow_pos}
 use Rattle.std.specs.Map.{lookup}
 use Rattle.std.specs.BTreeMap.{is_at}
 use Rattle.std.proofs.lemmas.Bool.{and_parts, and_from, eq-eqb, true≢false}
-use Rattle.mapdb_facts.specs.declared.operations.Op.TheVariants.{Born, Cut, Closed}
-use Rattle.mapdb_facts.specs.declared.operations.Record.{Record}
+use Rattle.mapdb_facts.specs.declared.operations.Op.TheVariants.{Cut}
 use Rattle.mapdb_facts.specs.declared.names.RecordId.{RecordId}
 use Rattle.mapdb_facts.specs.declared.operations.Revocation.{Revocation}
 use Rattle.mapdb_fpage.specs.declared.right_sets.Right.{Right}
 use Rattle.mapdb_fpage.specs.declared.right_sets.Right.TheVariants.{Read, Write, Execute}
-use Rattle.mapdb_facts.specs.declared.names.Space.{Space}
 use Rattle.mapdb_facts.specs.Exact.{exact_id}
-use Rattle.mapdb_facts.specs.Names.{same_id, same_space}
+use Rattle.mapdb_facts.specs.Names.{same_id}
 use Rattle.mapdb_fpage.specs.Place.{holds}
 use Rattle.mapdb_fpage.specs.RightSets.{includes, is_empty}
-use Rattle.mapdb_facts.specs.State.{State, Atom, Rec, Rev, End, Gives, Has, cuts}
-use Rattle.mapdb_facts.specs.Kept.{Kept, Cuts, Parts, id_cmp, cut_among, cut_by, cut_in, ended_in, record_in}
+use Rattle.mapdb_facts.specs.State.{State, Rec, Rev, End}
+use Rattle.mapdb_facts.specs.Kept.{Kept, Parts, id_cmp, cut_by, cut_in}
 use Rattle.mapdb_facts.specs.Facts.{state_of_facts}
 use Rattle.mapdb_facts.specs.Adding.{is_new}
 use Rattle.mapdb_facts.specs.Taking.{Knows, IsAllTaken}

@@ -24,3 +24,6 @@ pub mod Unions
 pub mod Walks
 pub mod Knowing
 pub mod Summing
+pub mod RunLists
+pub mod Changes
+pub mod FirstRuns

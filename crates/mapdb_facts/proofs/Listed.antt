@@ -1,6 +1,6 @@
 -- The records of facts in ascending order follow from their state.
 use Rattle.std.proofs.Common.{◌≡◌, ℕ, Bool, true, false, Some, refl, sym, ap, subst, ◌∙◌, List, [], ◌∷◌, ◌++◌, inl, inr}
-use Rattle.std.specs.Prelude.{◌⊎◌, Option, None, cond, option_and_then, if◌then◌else◌}
+use Rattle.std.specs.Prelude.{◌⊎◌, Option, None, cond, option_and_then}
 use Rattle.std.proofs.lemmas.Bool.{cases_Bool, cond-true, cond-false, false≢true}
 use Rattle.std.specs.Map.{lookup}
 use Rattle.std.specs.Ordering.{nat_cmp}
@@ -8,15 +8,14 @@ use Rattle.std.specs.BTreeMap.{is_at}
 use Rattle.mapdb_facts.specs.declared.holding.Facts.{Facts}
 use Rattle.mapdb_facts.specs.declared.names.RecordId.{RecordId}
 use Rattle.mapdb_facts.specs.declared.operations.Op.{Op}
-use Rattle.mapdb_facts.specs.declared.operations.Op.TheVariants.{Born}
 use Rattle.mapdb_facts.specs.declared.operations.Record.{Record}
 use Rattle.mapdb_facts.specs.Facts.{birth_of, births, records_of_facts, state_of_facts}
 use Rattle.mapdb_facts.specs.Kept.{Records, names_in, names_of, record_in}
-use Rattle.mapdb_facts.specs.Looking.{Holds, IsFound, IsGreatest}
+use Rattle.mapdb_facts.specs.Looking.{IsFound, IsGreatest}
 use Rattle.mapdb_facts.specs.Merging.{IsNamed}
-use Rattle.mapdb_facts.specs.Names.{is_after, is_before, same_id}
+use Rattle.mapdb_facts.specs.Names.{same_id}
 use Rattle.mapdb_facts.specs.Records.{ComesNext, IsAmong, greatest_number, records_of}
-use Rattle.mapdb_facts.specs.State.{State, first_of, said, state_of}
+use Rattle.mapdb_facts.specs.State.{State, first_of, state_of}
 use Rattle.mapdb_facts.proofs.Ascending.{ascending_records, comes_next, find_record, find_records, found_listed, greatest-number, same_lists}
 use Rattle.mapdb_facts.proofs.Atoms.{same_find}
 use Rattle.mapdb_facts.proofs.Comparing.{exact_nat}

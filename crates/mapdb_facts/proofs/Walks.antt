@@ -1,10 +1,9 @@
 -- The walk over the parts of one record.
-use Rattle.std.specs.Prelude.{◌≡◌, ◌≤◌, ◌<◌, ◌+◌, ℕ, Bool, true, false, ◌&&◌, ◌||◌, nat_le, nat_lt, List, [], ◌∷◌, Some, refl}
+use Rattle.std.specs.Prelude.{◌≡◌, ◌≤◌, ◌<◌, ◌+◌, ℕ, Bool, true, false, ◌&&◌, ◌||◌, nat_le, nat_lt, ◌∷◌, Some, refl}
 use Rattle.std.proofs.Common.{sym, ◌∙◌, ap, arith}
 use Rattle.std.specs.Map.{lookup}
 use Rattle.std.specs.List.{AllByRecursion}
 use Rattle.std.specs.BTreeMap.{is_at}
-use Rattle.std.proofs.lemmas.Bool.{and_parts, and_from}
 use Rattle.std.proofs.lemmas.Bool.Decides.{nat_tests}
 use Rattle.mapdb_join.specs.Bits.{has_bit}
 use Rattle.mapdb_join.specs.Entries.{some_has}
@@ -15,7 +14,7 @@ use Rattle.mapdb_fpage.specs.Place.{Place, page_total}
 use Rattle.mapdb_fpage.specs.Place.{holds}
 use Rattle.mapdb_fpage.specs.RightSets.{includes}
 use Rattle.mapdb_facts.specs.Kept.{bit_of, cut_among, has_part, part_cmp, Parts, rights_of_byte}
-use Rattle.mapdb_facts.proofs.CutAtoms.{IsCutBy, cut_of_part}
+use Rattle.mapdb_facts.proofs.CutAtoms.{cut_of_part}
 
 -- the rest of the entries decides whether the right is taken at the page
 pub record Looked (parts rest : Parts) (page : ℕ) (right : Right) : Type 0 where

@@ -1,5 +1,5 @@
 -- Which names, spaces, parts and records a program can have.
-use Rattle.std.specs.Prelude.{ℕ, ◌<◌, ◌^◌}
+use Rattle.std.specs.Prelude.{◌<◌, ◌^◌}
 use Rattle.mapdb_fpage.specs.Place.{IsPlace}
 use Rattle.mapdb_facts.specs.declared.keys.Part.{Part}
 use Rattle.mapdb_facts.specs.declared.names.RecordId.{RecordId}

@@ -5,7 +5,8 @@ use crate::keys::Part;
 use crate::names::{NUMBER_LIMIT, RecordId, Space};
 use crate::operations::{Op, Record, Revocation};
 use crate::parts::{are_taken, taken_at};
-use mapdb_fpage::Rights;
+use crate::runs::{CutRun, first_run};
+use mapdb_fpage::{PAGE_LIMIT, Rights};
 use mapdb_join::{BitsOr, Flat, Grow, JoinMap, MergePart};
 use std::alloc::{AllocError, Global};
 use std::marker::Model;
@@ -44,12 +45,13 @@ impl Model for Facts {
 }
 
 impl Facts {
-    ghost use Rattle.std.specs.Prelude.{◌≡◌, ◌⊎◌, ◌<◌, ◌↔◌, true, false, Ok, Err, None, Some, IfOk, IfErr, IfSome, IsOk, IsSome, IsTrue, OnOk, OnErr, Result, Bool};
+    ghost use Rattle.std.specs.Prelude.{◌≡◌, ◌⊎◌, ◌+◌, ◌<◌, ◌≤◌, ◌↔◌, true, false, Ok, Err, None, Some, IfOk, IfErr, IfSome, IsOk, IsSome, IsTrue, OnOk, OnErr, Result, Bool};
     ghost use Rattle.mapdb_facts.specs.Adding.{added, clash_of, cut_at, is_new};
     ghost use Rattle.mapdb_facts.specs.Facts.{records_of_facts, state_of_facts};
     ghost use Rattle.mapdb_facts.specs.Looking.{Holds, IsFirstAbove, IsFound, IsGreatest, IsNextOfNumber};
     ghost use Rattle.mapdb_facts.specs.Merging.{IsNamed};
     ghost use Rattle.mapdb_facts.specs.Records.{ComesNext, greatest_number};
+    ghost use Rattle.mapdb_facts.specs.Runs.{ComesFirst};
     ghost use Rattle.mapdb_facts.specs.State.{join, nothing, said};
     ghost use Rattle.mapdb_facts.specs.Taking.{Knows};
     ghost use Rattle.mapdb_facts.specs.WellFormed.{IsFormedRecord, checked, is_formed};
@@ -148,6 +150,18 @@ impl Facts {
         match self.cuts.get(&id) {
             Some(parts) => taken_at(parts.entries(), page),
             None => Rights::NONE,
+        }
+    }
+
+    /// The first run of pages, from one on, over which equal rights are revoked from the record, and not none: as many pages
+    /// as there are one behind the other. None from the end of the space on.
+    pub fn cut_run(&self, id: RecordId, page: u32) -> Option<CutRun>
+        ensures first { ComesFirst (state_of_facts self.now) id page result }
+        ensures limit { IfSome result (λ run. run.first_page + run.page_count ≤ PAGE_LIMIT) }
+    {
+        match self.cuts.get(&id) {
+            Some(parts) => first_run(parts.entries(), page),
+            None => None,
         }
     }
 

@@ -14,12 +14,14 @@ mod merging;
 mod names;
 mod operations;
 mod parts;
+mod runs;
 
 pub use checking::{OpFault, check};
 pub use holding::{AddFault, Facts};
 pub use mapdb_join::MergeFault;
 pub use names::{NUMBER_LIMIT, PROCESSOR_LIMIT, RecordId, Space};
 pub use operations::{Op, Record, Revocation};
+pub use runs::CutRun;
 
 #[cfg(test)]
 mod tests;

@@ -62,7 +62,7 @@ first_byte_aligned place is =
         ap (λ f. f * 4096) is_first ∙ (let r : pages * k * 4096 ≡ 4096 * pages * k = grind arith in r) ∙ sym (ap (λ s. s * k) is_size)
 
 -- the place at a place's own first byte
-place_at_own : (place : Place) → IsPlace place → place_at (place.first_page * 4096) place.order ≡ Ok place
+pub place_at_own : (place : Place) → IsPlace place → place_at (place.first_page * 4096) place.order ≡ Ok place
 place_at_own place is =
     let some : 0 < page_total place = pow_pos (place.order - 12) in
     let small : nat_lt place.order 12 ≡ false = grind (arith, nat_tests, is.at_least_a_page) in

@@ -11,6 +11,7 @@ mod sources;
 
 pub use record_frames::frame_of;
 pub use record_rights::rights_of;
+pub use sources::source_of;
 
 #[cfg(test)]
 mod tests;

@@ -7,6 +7,7 @@ use std::test::Fail;
 
 mod merging;
 mod plain;
+mod runs;
 
 /// A record of one page, at 0x20000 of a space, with all rights.
 fn mapping(id: RecordId, parent: RecordId, number: u16, source: u32) -> Result<Op, Fail> {
