@@ -27,3 +27,4 @@ pub mod CutIssues
 pub mod FormedIssues
 pub mod Bounding
 pub mod CutCopies
+mod SeenRecords

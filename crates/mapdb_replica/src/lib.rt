@@ -18,6 +18,7 @@ mod page_served;
 mod pieces;
 mod replicas;
 mod revocations;
+mod seen;
 mod serving;
 mod taking;
 mod unmapping;
