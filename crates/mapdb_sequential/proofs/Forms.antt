@@ -15,7 +15,7 @@ use Rattle.mapdb_facts.specs.declared.operations.Record.{Record}
 use Rattle.mapdb_replica.proofs.HolderNames.{not_root}
 use Rattle.mapdb_replica.specs.Unmap.{source_place}
 use Rattle.mapdb_sequential.proofs.StateSteps.{IsFormed}
-use Rattle.mapdb_sequential.specs.Reaching.{HavePlaces}
+use Rattle.mapdb_replica.specs.Forms.{HavePlaces}
 
 -- each record of well-formed operations is well-formed
 record_formed : (ops : List Op) (r : Record) → all_formed ops ≡ true → HasAtom ops (Rec r) → is_formed (Born r) ≡ true

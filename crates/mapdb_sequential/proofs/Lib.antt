@@ -24,3 +24,7 @@ pub mod Stepping
 pub mod Running
 pub mod PageAnswers
 pub mod PlainLists
+pub mod Walking
+pub mod Levels
+pub mod TreeLists
+pub mod TreeSteps

@@ -2,6 +2,7 @@
 use Rattle.std.proofs.Common.{◌≡◌, ℕ, Bool, true, false, Some, refl, sym, ap, subst, ◌∙◌, List, [], ◌∷◌, inl, inr}
 use Rattle.std.specs.Prelude.{◌⊎◌, ◌&&◌, Option, None, if◌then◌else◌}
 use Rattle.std.proofs.lemmas.Bool.{false≢true}
+use Rattle.std.specs.Option.{option_or}
 use Rattle.mapdb_fpage.specs.Place.{Place, holds, is_page}
 use Rattle.mapdb_fpage.specs.RightSets.{all_rights, common, includes, is_empty}
 use Rattle.mapdb_fpage.specs.declared.items.Transfer.{Transfer}
@@ -9,11 +10,11 @@ use Rattle.mapdb_fpage.specs.declared.right_sets.Right.{Right}
 use Rattle.mapdb_fpage.specs.declared.right_sets.Rights.{Rights}
 use Rattle.mapdb_facts.specs.Names.{is_first_space, same_space}
 use Rattle.mapdb_facts.specs.declared.names.Space.{Space}
-use Rattle.mapdb_sequential.proofs.PathTrees.{PathNode, PathTree, first_path_of, first_path_tree, is_path_taken, number_behind}
+use Rattle.mapdb_sequential.proofs.PathTrees.{PathNode, PathTree, first_path_tree, is_path_taken, number_behind}
 use Rattle.mapdb_sequential.proofs.PathTrees.{path_after_map, path_brought, path_handed}
 use Rattle.mapdb_sequential.proofs.RightLemmas.{common_left}
 use Rattle.mapdb_tree.specs.Steps.{AreSame}
-use Rattle.mapdb_tree.specs.Tree.{Tree, are_both, brought, first_of, first_tree, handed, mapped, page_behind}
+use Rattle.mapdb_tree.specs.Tree.{Tree, are_both, brought, first_tree, handed, mapped, page_behind}
 use Rattle.mapdb_tree.specs.declared.nodes.Node.{Node}
 use Rattle.mapdb_tree.specs.declared.nodes.Page.{Page}
 
@@ -99,20 +100,20 @@ both_short None b = refl
 both_short (Some node) None = refl
 both_short (Some node) (Some old) = refl
 
-first_of_short : (a b : Option PathNode) → first_of (short_of a) (short_of b) ≡ short_of (first_path_of a b)
-first_of_short None b = refl
-first_of_short (Some node) b = refl
+either_short : (a b : Option PathNode) → option_or (short_of a) (short_of b) ≡ short_of (option_or a b)
+either_short None b = refl
+either_short (Some node) b = refl
 
 map_short : (T : Tree) (U : PathTree) → IsShort T U → (sender receiver : Space) (t : Transfer) (page : Page)
     → (mapped T sender t receiver).node_at page ≡ short_of ((path_after_map U sender t.source receiver t.target t.rights).node_at page)
 map_short T U is sender receiver t page = by_test (same_space receiver page.space)
   where
-    by_test : (b : Bool) → (if b then first_of (brought T sender t page.number) (T.node_at page) else T.node_at page)
-        ≡ short_of (if b then first_path_of (path_brought U sender t.source t.target t.rights page.number) (U.node_at page) else U.node_at page)
+    by_test : (b : Bool) → (if b then option_or (brought T sender t page.number) (T.node_at page) else T.node_at page)
+        ≡ short_of (if b then option_or (path_brought U sender t.source t.target t.rights page.number) (U.node_at page) else U.node_at page)
     by_test true =
-        ap (λ (o : Option Node). first_of o (T.node_at page)) (brought_short T U is sender t page.number)
-        ∙ ap (first_of (short_of (path_brought U sender t.source t.target t.rights page.number))) (is.nodes page)
-        ∙ first_of_short (path_brought U sender t.source t.target t.rights page.number) (U.node_at page)
+        ap (λ (o : Option Node). option_or o (T.node_at page)) (brought_short T U is sender t page.number)
+        ∙ ap (option_or (short_of (path_brought U sender t.source t.target t.rights page.number))) (is.nodes page)
+        ∙ either_short (path_brought U sender t.source t.target t.rights page.number) (U.node_at page)
     by_test false = is.nodes page
 
 -- where a node of the tree after a Map is from
@@ -146,17 +147,17 @@ map_new : (T : PathTree) (sender : Space) (source : Place) (receiver : Space) (t
 map_new T sender source receiver target rights spot node e = by_space (same_space receiver spot.space) e
   where
     by_place : (from : Page) (b : Bool) (old : Option PathNode)
-        → first_path_of (if b then path_handed (T.node_at from) from rights else None) old ≡ Some node
+        → option_or (if b then path_handed (T.node_at from) from rights else None) old ≡ Some node
         → (old ≡ Some node) ⊎ ((from : Page) × (up : PathNode) × IsHanded T rights node from up)
     by_place from false old h = inl h
     by_place from true old h = by_node (path_handed (T.node_at from) from rights) refl h
       where
-        by_node : (o : Option PathNode) → path_handed (T.node_at from) from rights ≡ o → first_path_of o old ≡ Some node
+        by_node : (o : Option PathNode) → path_handed (T.node_at from) from rights ≡ o → option_or o old ≡ Some node
             → (old ≡ Some node) ⊎ ((from : Page) × (up : PathNode) × IsHanded T rights node from up)
         by_node None was k = inl k
         by_node (Some new) was k = let found = handed_is T rights node from (T.node_at from) refl (was ∙ k) in inr (from, found.0, found.1)
 
-    by_space : (b : Bool) → (if b then first_path_of (path_brought T sender source target rights spot.number) (T.node_at spot) else T.node_at spot)
+    by_space : (b : Bool) → (if b then option_or (path_brought T sender source target rights spot.number) (T.node_at spot) else T.node_at spot)
         ≡ Some node → (T.node_at spot ≡ Some node) ⊎ ((from : Page) × (up : PathNode) × IsHanded T rights node from up)
     by_space true h = by_place (record { space = sender; number = number_behind source target spot.number }) (holds target spot.number)
         (T.node_at spot) h
@@ -168,12 +169,12 @@ map_old : (T : PathTree) (sender : Space) (source : Place) (receiver : Space) (t
     → (spot : Page) (up : PathNode) → T.node_at spot ≡ Some up → (path_after_map T sender source receiver target rights).node_at spot ≡ Some up
 map_old T sender source receiver target rights free spot up e = by_space (same_space receiver spot.space) refl
   where
-    by_node : (o : Option PathNode) → is_path_taken o (T.node_at spot) ≡ false → first_path_of o (T.node_at spot) ≡ Some up
+    by_node : (o : Option PathNode) → is_path_taken o (T.node_at spot) ≡ false → option_or o (T.node_at spot) ≡ Some up
     by_node None open_to = e
     by_node (Some new) open_to = absurd (false≢true (sym open_to ∙ ap (is_path_taken (Some new)) e))
 
     by_space : (b : Bool) → same_space receiver spot.space ≡ b
-        → (if b then first_path_of (path_brought T sender source target rights spot.number) (T.node_at spot) else T.node_at spot) ≡ Some up
+        → (if b then option_or (path_brought T sender source target rights spot.number) (T.node_at spot) else T.node_at spot) ≡ Some up
     by_space true into = by_node (path_brought T sender source target rights spot.number) (free spot into)
     by_space false into = e
 

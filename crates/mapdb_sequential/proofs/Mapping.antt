@@ -2,6 +2,7 @@
 use Rattle.std.proofs.Common.{◌≡◌, ℕ, zero, suc, ◌<◌, ◌≤◌, Bool, true, false, Some, refl, sym, ap, subst, ◌∙◌, arith, inl, inr, List, [], ◌∷◌}
 use Rattle.std.specs.Prelude.{◌&&◌, ◌⊎◌, nat_lt, not, Option, None, if◌then◌else◌}
 use Rattle.std.proofs.lemmas.Bool.{and_parts, and_from, and_left, cond-true, cond-false, cases_Bool, false≢true}
+use Rattle.std.specs.Option.{option_or}
 use Rattle.mapdb_fpage.proofs.Booleans.{and_same}
 use Rattle.mapdb_fpage.specs.Place.{Place, holds, is_page}
 use Rattle.mapdb_fpage.specs.RightSets.{common, includes, is_empty}
@@ -18,7 +19,7 @@ use Rattle.mapdb_rights.proofs.Steps.{earlier, has_right-record, has_right-root}
 use Rattle.mapdb_rights.proofs.Walk.{rights_at-outside, same_rights}
 use Rattle.mapdb_rights.specs.PageRights.{is_into, is_record_into, lies_in, lies_in_record}
 use Rattle.mapdb_rights.specs.Right.{allows, has_right, reaches, rights_at, source_page}
-use Rattle.mapdb_sequential.proofs.PathTrees.{PathNode, PathTree, first_path_of, is_path_taken, number_behind}
+use Rattle.mapdb_sequential.proofs.PathTrees.{PathNode, PathTree, is_path_taken, number_behind}
 use Rattle.mapdb_sequential.proofs.PathTrees.{path_after_map, path_brought, path_handed}
 use Rattle.mapdb_sequential.proofs.RightLemmas.{empty_from, none_of}
 use Rattle.mapdb_sequential.proofs.Showing.{ComesThrough, IsBare, IsHeldBy, Shows, ShowsAt}
@@ -324,19 +325,19 @@ module _ (S S' : State) (sender : Space) (source : Place) (receiver : Space) (ta
   shows_target : (spot : Page) (from old : Option PathNode) → receiver ≡ spot.space → holds target spot.number ≡ true
       → ShowsAt S (record { space = sender; number = number_behind source target spot.number }) from → ShowsAt S spot old
       → is_path_taken (path_handed from (record { space = sender; number = number_behind source target spot.number }) rights) old ≡ false
-      → ShowsAt S' spot (first_path_of (path_handed from (record { space = sender; number = number_behind source target spot.number }) rights) old)
+      → ShowsAt S' spot (option_or (path_handed from (record { space = sender; number = number_behind source target spot.number }) rights) old)
   shows_target spot None old here inside bare shown free =
       shows_still spot old (λ id (r, is, piece, _). piece_empty id r spot.number is piece
       (empty_common (rights_at S r.parent (number_behind source target spot.number)) rights (bare r.parent piece.from))) shown
   shows_target spot (Some node) old here inside (holder, held) shown free =
       elim (cases_Bool (is_empty (common node.rights rights))) [
         | inl none ↦
-            subst (λ (new : Option PathNode). ShowsAt S' spot (first_path_of new old))
+            subst (λ (new : Option PathNode). ShowsAt S' spot (option_or new old))
             (sym (cond-true (is_empty (common node.rights rights)) None (Some made) none))
             (shows_still spot old (λ id (r, is, piece, _). piece_empty id r spot.number is piece
             (shared_by spot.number node holder held none r.parent piece.from)) shown)
         | inr some ↦
-            subst (λ (new : Option PathNode). ShowsAt S' spot (first_path_of new old))
+            subst (λ (new : Option PathNode). ShowsAt S' spot (option_or new old))
             (sym (cond-false (is_empty (common node.rights rights)) None (Some made) some))
             (on_free old shown (sym (ap (λ (new : Option PathNode). is_path_taken new old)
             (cond-false (is_empty (common node.rights rights)) None (Some made) some)) ∙ free) some)
@@ -363,13 +364,13 @@ module _ (S S' : State) (sender : Space) (source : Place) (receiver : Space) (ta
     nodes = λ spot. elim (cases_Bool (same_space receiver spot.space)) [
       | inl here ↦
           subst (ShowsAt S' spot) (sym (cond-true (same_space receiver spot.space)
-          (first_path_of (path_brought T sender source target rights spot.number) (T.node_at spot)) (T.node_at spot) here))
+          (option_or (path_brought T sender source target rights spot.number) (T.node_at spot)) (T.node_at spot) here))
           (elim (cases_Bool (holds target spot.number)) [
             | inl inside ↦
                 let is_handed = cond-true (holds target spot.number)
                 (path_handed (T.node_at (record { space = sender; number = number_behind source target spot.number }))
                 (record { space = sender; number = number_behind source target spot.number }) rights) None inside in
-                subst (λ (new : Option PathNode). ShowsAt S' spot (first_path_of new (T.node_at spot))) (sym is_handed)
+                subst (λ (new : Option PathNode). ShowsAt S' spot (option_or new (T.node_at spot))) (sym is_handed)
                 (shows_target spot (T.node_at (record { space = sender; number = number_behind source target spot.number })) (T.node_at spot)
                 (same_space_true receiver spot.space here) inside
                 (shows.nodes (record { space = sender; number = number_behind source target spot.number })) (shows.nodes spot)
@@ -378,12 +379,12 @@ module _ (S S' : State) (sender : Space) (source : Place) (receiver : Space) (ta
                 let no_more = cond-false (holds target spot.number)
                 (path_handed (T.node_at (record { space = sender; number = number_behind source target spot.number }))
                 (record { space = sender; number = number_behind source target spot.number }) rights) None out in
-                subst (λ (new : Option PathNode). ShowsAt S' spot (first_path_of new (T.node_at spot))) (sym no_more)
+                subst (λ (new : Option PathNode). ShowsAt S' spot (option_or new (T.node_at spot))) (sym no_more)
                 (shows_still spot (T.node_at spot) (λ id (r, is, piece, _). outside id r is piece spot.number out) (shows.nodes spot))
           ])
       | inr elsewhere ↦
           subst (ShowsAt S' spot) (sym (cond-false (same_space receiver spot.space)
-          (first_path_of (path_brought T sender source target rights spot.number) (T.node_at spot)) (T.node_at spot) elsewhere))
+          (option_or (path_brought T sender source target rights spot.number) (T.node_at spot)) (T.node_at spot) elsewhere))
           (shows_still spot (T.node_at spot) (λ id (r, is, piece, at). absurd
           (false≢true (sym elsewhere ∙ (λ i. same_space (at i) spot.space) ∙ same_space_itself spot.space))) (shows.nodes spot))
     ];

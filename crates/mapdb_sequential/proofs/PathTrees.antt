@@ -1,5 +1,6 @@
 -- A tree of pages whose nodes have all pages that they came through. What parents say step by step, it has in one list.
 use Rattle.std.specs.Prelude.{ℕ, Bool, true, false, ◌&&◌, ◌||◌, ◌+◌, ◌-◌, List, [], ◌∷◌, Option, Some, None, if◌then◌else◌}
+use Rattle.std.specs.Option.{option_or}
 use Rattle.mapdb_fpage.specs.Place.{Place, holds, is_page}
 use Rattle.mapdb_fpage.specs.RightSets.{all_rights, common, is_empty, without}
 use Rattle.mapdb_fpage.specs.declared.right_sets.Rights.{Rights}
@@ -57,16 +58,11 @@ is_path_taken (Some new) (Some old) = true
 is_path_taken (Some new) None = false
 is_path_taken None old = false
 
--- Map, where no page is taken
-abbrev pub first_path_of : Option PathNode → Option PathNode → Option PathNode
-first_path_of (Some new) old = Some new
-first_path_of None old = old
-
 abbrev pub path_after_map : PathTree → Space → Place → Space → Place → Rights → PathTree
 path_after_map T sender source receiver target rights = record {
   node_at = λ spot.
       if same_space receiver spot.space
-      then first_path_of (path_brought T sender source target rights spot.number) (T.node_at spot)
+      then option_or (path_brought T sender source target rights spot.number) (T.node_at spot)
       else T.node_at spot;
   is_over = T.is_over;
 }

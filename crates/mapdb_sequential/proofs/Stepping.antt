@@ -104,14 +104,15 @@ least_none first (suc count) test e page low high =
     ]
 
 -- what does not refuse
-not_refused : (b : Bool) (fault : TreeFault) (rest : Option TreeFault) → (if b then Some fault else rest) ≡ None → (b ≡ false) × (rest ≡ None)
+pub not_refused : (b : Bool) (fault : TreeFault) (rest : Option TreeFault) → (if b then Some fault else rest) ≡ None
+    → (b ≡ false) × (rest ≡ None)
 not_refused true fault rest h = absurd (no_fault h)
   where
     no_fault : Some fault ≡ None → ⊥
     no_fault e = cc
 not_refused false fault rest h = (refl, h)
 
-not_occupied : (receiver : Space) (o : Option ℕ) → occupied_refusal receiver o ≡ None → o ≡ None
+pub not_occupied : (receiver : Space) (o : Option ℕ) → occupied_refusal receiver o ≡ None → o ≡ None
 not_occupied receiver None h = refl
 not_occupied receiver (Some number) h = absurd (no_fault (occupied_refusal receiver (Some number)) refl h)
   where
@@ -120,7 +121,7 @@ not_occupied receiver (Some number) h = absurd (no_fault (occupied_refusal recei
     no_fault (Some fault) e h = cc
 
 -- where the search finds nothing, no page is taken
-free_of : (T : Tree) (U : PathTree) → IsShort T U → (sender receiver : Space) (t : Transfer) → occupied T sender t receiver ≡ None
+pub free_of : (T : Tree) (U : PathTree) → IsShort T U → (sender receiver : Space) (t : Transfer) → occupied T sender t receiver ≡ None
     → (page : Page) → same_space receiver page.space ≡ true → is_path_taken (path_brought U sender t.source t.target t.rights page.number)
     (U.node_at page) ≡ false
 free_of T U is sender receiver t none page into = elim (cases_Bool (holds t.target page.number)) [

@@ -1,3 +1,4 @@
 pub mod Plain
 pub mod Sequential
 pub mod Reaching
+pub mod Trees

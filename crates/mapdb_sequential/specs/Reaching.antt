@@ -5,7 +5,7 @@ use Rattle.mapdb_fpage.specs.RightSets.{includes}
 use Rattle.mapdb_fpage.specs.declared.right_sets.Right.{Right}
 use Rattle.mapdb_fpage.specs.declared.right_sets.Rights.{Rights}
 use Rattle.mapdb_facts.specs.Names.{is_root}
-use Rattle.mapdb_facts.specs.State.{HasAtom, Rec, State, state_of}
+use Rattle.mapdb_facts.specs.State.{State, state_of}
 use Rattle.mapdb_facts.specs.WellFormed.{all_formed}
 use Rattle.mapdb_facts.specs.declared.names.RecordId.{RecordId}
 use Rattle.mapdb_facts.specs.declared.names.Space.{Space}
@@ -13,11 +13,8 @@ use Rattle.mapdb_facts.specs.declared.operations.Op.{Op}
 use Rattle.mapdb_facts.specs.declared.operations.Record.{Record}
 use Rattle.mapdb_rights.specs.PageRights.{is_into, lies_in}
 use Rattle.mapdb_rights.specs.Right.{has_right, source_page}
+use Rattle.mapdb_replica.specs.Forms.{HavePlaces}
 use Rattle.mapdb_replica.specs.Unmap.{unmap_candidates}
-
--- the places of the records are places, as the type of an fpage keeps
-abbrev pub HavePlaces : List Op → Type 0
-HavePlaces ops = (r : Record) → HasAtom ops (Rec r) → IsPlace r.place
 
 -- so many steps up from the record at the page lead to that one at that page
 abbrev pub ComesFrom : State → ℕ → RecordId → ℕ → RecordId → ℕ → Type 0

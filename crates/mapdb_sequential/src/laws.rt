@@ -2,6 +2,7 @@
 
 ghost use Rattle.mapdb_sequential.specs.Reaching.{UnmapReaches};
 ghost use Rattle.mapdb_sequential.specs.Sequential.{CommandsLeaveTrees, RefusalsAgree, SequentialTree};
+ghost use Rattle.mapdb_sequential.specs.Trees.{PlainListsHaveTrees, TreesAreExact};
 
 /// Commands at one copy alone, into empty destinations, give exactly the manual's tree: each page of each space has the
 /// rights of the tree's node and no others, and is served with them.
@@ -25,4 +26,16 @@ pub fn commands_leave_trees()
 /// part, nor with a flush to the part itself, nor to anything below, whether the issuer saw it or not.
 pub fn unmap_reaches()
     ensures { UnmapReaches }
+{}
+
+/// The tree as a function of the commands is the tree that the manual's relations say, one command after the other: it has
+/// each tree that commands make and no other, so its bound on the steps that are looked up leaves nothing out.
+pub fn trees_are_exact()
+    ensures { TreesAreExact }
+{}
+
+/// After commands at one copy alone, into empty destinations, the function gives that tree for the commands that the copy
+/// accepted.
+pub fn plain_lists_have_trees()
+    ensures { PlainListsHaveTrees }
 {}

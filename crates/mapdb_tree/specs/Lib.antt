@@ -3,3 +3,4 @@ pub mod Held
 pub mod Reaching
 pub mod Steps
 pub mod Parts
+pub mod Walks

@@ -24,10 +24,10 @@ fn page_behind(sender: Space, carried: &Transfer, number: u32) -> Page
 
 impl Nodes {
     ghost use Rattle.std.specs.Prelude.{◌≡◌, ◌+◌, true, None, IfOk, OnOk, Option, List, if◌then◌else◌};
-    ghost use Rattle.std.specs.Option.{is_some};
+    ghost use Rattle.std.specs.Option.{is_some, option_or};
     ghost use Rattle.mapdb_fpage.specs.Place.{holds, page_total};
     ghost use Rattle.mapdb_facts.specs.declared.names.Space.{Space};
-    ghost use Rattle.mapdb_tree.specs.Held.{IsForest, first_held_of, handed_held, held_at, is_between, put_over, tree_in};
+    ghost use Rattle.mapdb_tree.specs.Held.{IsForest, handed_held, held_at, is_between, put_over, tree_in};
     ghost use Rattle.mapdb_tree.specs.Steps.{AreSame};
     ghost use Rattle.mapdb_tree.specs.Tree.{is_occupied, mapped, occupied, page_behind};
     ghost use Rattle.mapdb_tree.specs.declared.nodes.Page.{Page};
@@ -102,7 +102,7 @@ impl Nodes {
     ) -> Result<Vec<(Page, Held)>, AllocError>
         ensures { IfOk result (λ found. (page : Page) (old : Option Held) → put_over found.items page old ≡
             (if is_between receiver carried.now.target.first_page (carried.now.target.first_page + page_total carried.now.target) page
-            then first_held_of (handed_held (held_at self.now (page_behind sender carried.now page.number))
+            then option_or (handed_held (held_at self.now (page_behind sender carried.now page.number))
             (page_behind sender carried.now page.number) carried.now.rights) old
             else old)) }
     {
