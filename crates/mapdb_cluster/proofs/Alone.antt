@@ -1,5 +1,5 @@
 -- The copy of a run in which one processor alone issues commands is that of the commands.
-use Rattle.std.proofs.Common.{◌≡◌, ℕ, zero, suc, ◌+◌, Err, Ok, Result, Some, refl, sym, subst, ap, ◌∙◌, List, [], ◌∷◌, map, arith}
+use Rattle.std.proofs.Common.{◌≡◌, ℕ, zero, suc, ◌+◌, Err, Ok, Result, Some, sym, subst, ap, ◌∙◌, List, [], ◌∷◌, map, arith}
 use Rattle.std.specs.Prelude.{◌<◌, Option, None, slice_get}
 use Rattle.std.specs.List.{range_with_len}
 use Rattle.mapdb_facts.specs.declared.operations.Op.{Op}

@@ -1,7 +1,7 @@
 -- What a copy holds after one event.
-use Rattle.std.proofs.Common.{◌≡◌, ℕ, Bool, true, false, Some, refl, sym, subst, ap, ◌∙◌, inl, inr, List, [], ◌∷◌, ◌++◌, append-nil}
-use Rattle.std.specs.Prelude.{◌==◌, ◌⊎◌, Option, None, slice_get, slice_set, if◌then◌else◌}
-use Rattle.std.proofs.lemmas.Bool.{cases_Bool, eqb-true}
+use Rattle.std.proofs.Common.{◌≡◌, ℕ, Bool, true, false, Some, refl, sym, subst, ap, ◌∙◌, inl, inr, List, [], ◌++◌, append-nil}
+use Rattle.std.specs.Prelude.{◌==◌, ◌⊎◌, None, slice_get, slice_set, if◌then◌else◌}
+use Rattle.std.proofs.lemmas.Bool.{eqb-true}
 use Rattle.mapdb_facts.specs.State.{HasAtom, IsSound, Rec, SameAtoms}
 use Rattle.mapdb_facts.specs.declared.operations.Op.{Op}
 use Rattle.mapdb_facts.proofs.Joins.{atom_append, atom_left}

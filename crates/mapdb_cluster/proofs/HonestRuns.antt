@@ -15,7 +15,7 @@ use Rattle.mapdb_replica.specs.Replica.{Log, empty, with_issued}
 use Rattle.mapdb_replica.specs.declared.commands.Command.{Command}
 use Rattle.mapdb_replica.specs.declared.faults.IssueFault.{IssueFault}
 use Rattle.mapdb_replica.proofs.FormedIssues.{issues_are_formed}
-use Rattle.mapdb_cluster.specs.Honest.{AllTrusted, AreEvents, HonestRuns, IsEvent, IsHonest}
+use Rattle.mapdb_cluster.specs.Honest.{AllTrusted, AreEvents, HonestRuns, IsEvent}
 use Rattle.mapdb_cluster.specs.Kept.{IsCopyOf, IsKept}
 use Rattle.mapdb_cluster.specs.Net.{Done, Net, at_copy, at_processor, event_done, issue_done, new_net, with_copy}
 use Rattle.mapdb_cluster.specs.Run.{Happens, Loads, Move, after, replies}
@@ -28,10 +28,10 @@ use Rattle.mapdb_cluster.proofs.Issuers.{kept_from}
 use Rattle.mapdb_cluster.proofs.Slots.{none_some}
 
 -- the operation's record has a place, where it is one
-abbrev HasPlace : Op → Type 0
+abbrev pub HasPlace : Op → Type 0
 HasPlace op = (r : Record) → op ≡ Born r → IsPlace r.place
 
-places_of : (ops : List Op) → ((op : Op) → IsAmong op ops → HasPlace op) → HavePlaces ops
+pub places_of : (ops : List Op) → ((op : Op) → IsAmong op ops → HasPlace op) → HavePlaces ops
 places_of ops each r has = each (Born r) (atom_among ops r has) r refl
 
 place_at : (ops : List Op) → HavePlaces ops → (op : Op) → IsAmong op ops → HasPlace op
@@ -130,13 +130,21 @@ new_placed count at copy there op among = absurd (subst (λ (c : Log). IsAmong o
 
 -- Runs.
 
-runs_from : (net : Net) (moves : List Move) → IsKept net → EachHeld HasPlace net → AreEvents moves → IsHonest (after net moves) × AllTrusted (replies net moves)
-runs_from net [] kept placed are = (kept.honest, tt)
-runs_from net (Happens event memory ∷ moves) kept placed are =
-    let done = honest_step net kept placed event memory are.0 in
-    let rest = runs_from (event_done net event memory).net moves done.kept done.each are.1 in
+-- a net that is kept, in which each record has a place
+pub record IsGood (net : Net) : Type 0 where
+  pub kept : IsKept net
+  pub placed : EachHeld HasPlace net
+
+pub good_from : (net : Net) (moves : List Move) → IsGood net → AreEvents moves → IsGood (after net moves) × AllTrusted (replies net moves)
+good_from net [] good are = (good, tt)
+good_from net (Happens event memory ∷ moves) good are =
+    let done = honest_step net good.kept good.placed event memory are.0 in
+    let rest = good_from (event_done net event memory).net moves (record { kept = done.kept; placed = done.each }) are.1 in
     (rest.0, (done.trusted, rest.1))
-runs_from net (Loads at ops memory ∷ moves) kept placed are = absurd are
+good_from net (Loads at ops memory ∷ moves) good are = absurd are
+
+pub new_good : (count : ℕ) → count ≤ processor_limit → IsGood (new_net count)
+new_good count few = record { kept = new_kept count few; placed = new_placed count }
 
 pub honest_runs : HonestRuns
-honest_runs count moves few are = runs_from (new_net count) moves (new_kept count few) (new_placed count) are
+honest_runs count moves few are = let runs = good_from (new_net count) moves (new_good count few) are in (runs.0.kept.honest, runs.1)

@@ -13,3 +13,4 @@ pub mod HonestSteps
 pub mod HonestRuns
 pub mod Leaving
 pub mod Alone
+pub mod Unmaps

@@ -3,7 +3,7 @@ use Rattle.std.proofs.Common.{◌≡◌, ℕ, zero, suc, ◌+◌, Some, refl, sy
 use Rattle.std.specs.Prelude.{◌⊎◌, Option, None, slice_get}
 use Rattle.std.specs.List.{range_with_len}
 use Rattle.std.proofs.lemmas.Bool.{and_from}
-use Rattle.mapdb_facts.specs.State.{Atom, HasAtom, IsSound, Rec, SameAtoms, state_of}
+use Rattle.mapdb_facts.specs.State.{HasAtom, IsSound, Rec, SameAtoms, state_of}
 use Rattle.mapdb_facts.specs.declared.operations.Op.{Op}
 use Rattle.mapdb_facts.proofs.Atoms.{record_held}
 use Rattle.mapdb_facts.proofs.Joins.{atom_append, atom_left, atom_right}
@@ -13,10 +13,10 @@ use Rattle.mapdb_replica.specs.Agreement.{knows_all}
 use Rattle.mapdb_replica.specs.Replica.{Log, empty}
 use Rattle.mapdb_replica.proofs.Agreeing.{covers_known, look_alike}
 use Rattle.mapdb_replica.proofs.Bounding.{merge_is_least}
-use Rattle.mapdb_cluster.specs.Laws.{AreCopiesOfRuns, AreSound, CopiesAgree, HoldsTook, JoinIsLeast, NoEscalation, SchedulesAreExact}
+use Rattle.mapdb_cluster.specs.Laws.{AreSound, CopiesAgree, JoinIsLeast, NoEscalation, SchedulesAreExact}
 use Rattle.mapdb_cluster.specs.Net.{Done, Net, new_net}
 use Rattle.mapdb_cluster.specs.Run.{Move, after, done_by, took, took_by}
-use Rattle.mapdb_cluster.proofs.Holding.{same_itself, same_trans, same_turned}
+use Rattle.mapdb_cluster.proofs.Holding.{same_trans, same_turned}
 use Rattle.mapdb_cluster.proofs.Slots.{none_some, one_there}
 use Rattle.mapdb_cluster.proofs.Stepping.{move_hold}
 

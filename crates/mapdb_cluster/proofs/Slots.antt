@@ -1,7 +1,7 @@
 -- One place of a list is set, and others stay.
-use Rattle.std.proofs.Common.{◌≡◌, ℕ, zero, suc, Bool, true, false, Some, refl, sym, ap, ◌∙◌, List, [], ◌∷◌}
+use Rattle.std.proofs.Common.{◌≡◌, ℕ, zero, suc, false, Some, refl, sym, ap, ◌∙◌, List, [], ◌∷◌}
 use Rattle.std.proofs.lemmas.Bool.{eq-eqb, true≢false}
-use Rattle.std.specs.Prelude.{◌==◌, ◌≢◌, Option, None, slice_get, slice_set}
+use Rattle.std.specs.Prelude.{◌==◌, ◌≢◌, None, slice_get, slice_set}
 
 module _ {X : Type 0} where
   pub none_some : (x : X) → None ≡ Some x → ⊥

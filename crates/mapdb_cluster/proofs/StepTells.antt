@@ -1,6 +1,6 @@
 -- One event at one copy, told in the net.
-use Rattle.std.proofs.Common.{◌≡◌, ℕ, zero, suc, ◌<◌, Err, Ok, Result, Some, refl, sym, subst, ap, ◌∙◌, inl, inr, List, [], ◌∷◌, length, take}
-use Rattle.std.specs.Prelude.{◌⊎◌, ◌+◌, Bool, true, false, Option, None, count_by, nat_lt, slice_get, slice_set, if◌then◌else◌}
+use Rattle.std.proofs.Common.{◌≡◌, ℕ, zero, suc, ◌<◌, Err, Ok, Result, Some, refl, sym, subst, ap, ◌∙◌, inl, inr, List, [], ◌∷◌, length}
+use Rattle.std.specs.Prelude.{◌+◌, Bool, true, false, Option, None, count_by, nat_lt, slice_get, slice_set, if◌then◌else◌}
 use Rattle.std.specs.Option.{option_map, option_or}
 use Rattle.mapdb_facts.specs.Adding.{is_new}
 use Rattle.mapdb_facts.specs.WellFormed.{checked}
@@ -8,19 +8,16 @@ use Rattle.mapdb_facts.specs.declared.checking.OpFault.{OpFault}
 use Rattle.mapdb_facts.specs.declared.names.RecordId.{RecordId}
 use Rattle.mapdb_facts.specs.State.{state_of}
 use Rattle.mapdb_facts.specs.declared.operations.Op.{Op}
-use Rattle.mapdb_replica.specs.Commands.{command_outcome}
 use Rattle.mapdb_replica.specs.Replica.{Log, most_operations, news, with_issued}
 use Rattle.mapdb_replica.specs.Taking.{IsRefusedAs, bad_at, first_bad, least_clash, take_outcome, taken_unless, with_taken}
 use Rattle.mapdb_replica.specs.declared.commands.Command.{Command}
 use Rattle.mapdb_replica.specs.declared.commands.Command.TheVariants.{End, Map, Unmap}
 use Rattle.mapdb_replica.specs.declared.faults.IssueFault.{IssueFault}
-use Rattle.mapdb_replica.specs.declared.faults.IssueFault.TheVariants as issue
 use Rattle.mapdb_replica.specs.declared.faults.TakeFault.{TakeFault}
 use Rattle.mapdb_replica.specs.declared.faults.TakeFault.TheVariants as take_fault
-use Rattle.mapdb_cluster.specs.Net.{Done, Net, at_copy, event_done, issue_done, issue_reply, refused, take_done, take_refused, with_copy}
+use Rattle.mapdb_cluster.specs.Net.{Done, Net, event_done, issue_done, issue_reply, refused, take_done, take_refused, with_copy}
 use Rattle.mapdb_cluster.specs.Steps.{Commands, IsPart, Steps, TakesWith, wanted}
 use Rattle.mapdb_cluster.specs.declared.events.Event.{Event}
-use Rattle.mapdb_cluster.specs.declared.events.Event.TheVariants.{Issue}
 use Rattle.mapdb_cluster.specs.declared.events.Refusal.{Refusal}
 use Rattle.mapdb_cluster.specs.declared.events.Refusal.TheVariants as refusal
 use Rattle.mapdb_cluster.specs.declared.events.Reply.{Reply}

@@ -1,5 +1,5 @@
 -- Whatever an event does, each copy holds what it held and what it took.
-use Rattle.std.proofs.Common.{◌≡◌, ℕ, Bool, true, false, Err, Ok, Result, Some, refl, sym, subst, ap, ◌∙◌, inl, inr, List, [], ◌∷◌, ◌++◌, drop, take}
+use Rattle.std.proofs.Common.{◌≡◌, ℕ, Bool, true, false, Err, Ok, Result, Some, refl, subst, inl, inr, List, ◌++◌, drop, take}
 use Rattle.std.specs.Prelude.{◌==◌, ◌⊎◌, Option, None, slice_get, if◌then◌else◌}
 use Rattle.std.proofs.lemmas.List.{take-append-drop}
 use Rattle.mapdb_facts.specs.State.{Atom, HasAtom, IsSound, Rec, SameAtoms, state_of}
@@ -19,13 +19,13 @@ use Rattle.mapdb_replica.proofs.NewsAtoms.{news_give}
 use Rattle.mapdb_replica.proofs.SoundIssues.{issues_are_sound}
 use Rattle.mapdb_replica.proofs.SoundTakes.{taken_parts, takes_are_sound}
 use Rattle.mapdb_cluster.specs.Laws.{AreSound}
-use Rattle.mapdb_cluster.specs.Net.{Done, Net, at_copy, at_processor, delivered, event_done, issue_done, issue_reply, joined, refused, send_done, take_done, take_refused, taken_at, with_message}
+use Rattle.mapdb_cluster.specs.Net.{Done, Net, at_copy, at_processor, delivered, event_done, issue_done, issue_reply, joined, refused, send_done, take_done, take_refused, taken_at}
 use Rattle.mapdb_cluster.specs.Run.{Happens, Loads, Move, done_by}
 use Rattle.mapdb_cluster.specs.declared.events.Event.{Event}
 use Rattle.mapdb_cluster.specs.declared.events.Event.TheVariants.{Deliver, Issue, Join, Send}
 use Rattle.mapdb_cluster.specs.declared.events.Refusal.{Refusal}
 use Rattle.mapdb_cluster.specs.declared.events.Refusal.TheVariants as refusal
-use Rattle.mapdb_cluster.specs.declared.events.Reply.TheVariants.{Refused, Sent, Taken}
+use Rattle.mapdb_cluster.specs.declared.events.Reply.TheVariants.{Refused, Taken}
 use Rattle.mapdb_cluster.proofs.Holding.{AllHold, changed_hold, repeated_hold, same_itself, sound_alike, unchanged_hold}
 
 -- what the first operations give, all give

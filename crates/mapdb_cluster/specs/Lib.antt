@@ -5,3 +5,4 @@ pub mod Steps
 pub mod Honest
 pub mod Kept
 pub mod Alone
+pub mod Unmaps

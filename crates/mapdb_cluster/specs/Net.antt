@@ -11,7 +11,6 @@ use Rattle.mapdb_replica.specs.Taking.{take_outcome, with_taken}
 use Rattle.mapdb_replica.specs.declared.commands.Command.{Command}
 use Rattle.mapdb_replica.specs.declared.commands.Command.TheVariants.{End, Map, Unmap}
 use Rattle.mapdb_replica.specs.declared.faults.GiveFault.{GiveFault}
-use Rattle.mapdb_replica.specs.declared.faults.GiveFault.TheVariants as give
 use Rattle.mapdb_replica.specs.declared.faults.IssueFault.{IssueFault}
 use Rattle.mapdb_replica.specs.declared.faults.IssueFault.TheVariants as issue
 use Rattle.mapdb_replica.specs.declared.faults.TakeFault.{TakeFault}

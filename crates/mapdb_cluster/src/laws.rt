@@ -3,6 +3,7 @@
 ghost use Rattle.mapdb_cluster.specs.Alone.{RunsAloneAreTrees};
 ghost use Rattle.mapdb_cluster.specs.Honest.{HonestRuns};
 ghost use Rattle.mapdb_cluster.specs.Laws.{CopiesAgree, JoinIsLeast, NoEscalation, SchedulesAreExact};
+ghost use Rattle.mapdb_cluster.specs.Unmaps.{IssuersHaveTaken, UnmapsReach};
 
 /// In every run, each copy holds exactly the atoms that it held before and those that it took, in whatever order they
 /// came, and however often.
@@ -38,4 +39,15 @@ pub fn honest_runs()
 /// each space has the rights of the tree's node and no others, and is served with them.
 pub fn runs_alone_are_trees()
     ensures { RunsAloneAreTrees }
+{}
+
+/// In every run without lists from outside: once a copy has taken an Unmap, none of the named rights is left there to what the
+/// issuer saw below the part as it issued, nor with a flush to the part itself, nor to anything below, whether seen or not.
+pub fn unmaps_reach()
+    ensures { UnmapsReach }
+{}
+
+/// A copy that issues an Unmap has taken it.
+pub fn issuers_have_taken()
+    ensures { IssuersHaveTaken }
 {}
