@@ -1,0 +1,172 @@
+-- What a text says as a snapshot, or why it is none.
+use Rattle.std.specs.Prelude.{ℕ, suc, ◌+◌, ◌*◌, ◌^◌, ◌==◌, List, [], ◌∷◌, ◌++◌, nat_lt, Option, Some, None, option_and_then, Result, Ok, Err, if◌then◌else◌, codes}
+use Rattle.std.specs.Str.{is_utf8}
+use Rattle.serde_json.specs.Data.{Data, Items, Members, item, member, no_items, no_members}
+use Rattle.serde_json.specs.Find.{as_array, as_number, as_object, as_u64, get_item, get_member}
+use Rattle.serde_json.specs.Read.{read}
+use Rattle.mapdb_fpage.specs.Addresses.{place_at}
+use Rattle.mapdb_fpage.specs.Bounds.{page_bytes}
+use Rattle.mapdb_fpage.specs.Place.{Place}
+use Rattle.mapdb_fpage.specs.RightSets.{rights_of_bits}
+use Rattle.mapdb_fpage.specs.declared.places.FpageFault.{FpageFault}
+use Rattle.mapdb_fpage.specs.declared.right_sets.Rights.{Rights}
+use Rattle.mapdb_facts.specs.declared.names.RecordId.{RecordId}
+use Rattle.mapdb_facts.specs.declared.names.Space.{Space}
+use Rattle.mapdb_facts.specs.declared.operations.Op.{Op}
+use Rattle.mapdb_facts.specs.declared.operations.Op.TheVariants.{Born, Closed, Cut}
+use Rattle.mapdb_snapshot.specs.declared.faults.SnapshotFault.{SnapshotFault}
+use Rattle.mapdb_snapshot.specs.declared.faults.SnapshotFault.TheVariants as fault
+use Rattle.mapdb_snapshot.specs.declared.faults.TheConstants.{SNAPSHOT_VERSION}
+
+infixl 10 ◌>>=◌
+-- one step after the other, up to the first fault
+abbrev pub ◌>>=◌ : {A B : Type 0} → Result A SnapshotFault → (A → Result B SnapshotFault) → Result B SnapshotFault
+(Ok x) >>= f = f x
+(Err e) >>= f = Err e
+
+-- what must be there, for the text to have the shape
+abbrev pub or_shape : {A : Type 0} → Option A → Result A SnapshotFault
+or_shape (Some x) = Ok x
+or_shape None = Err fault.Shape
+
+abbrev pub below : ℕ → ℕ → Option ℕ
+below limit n = if nat_lt n limit then Some n else None
+
+-- a whole number below a limit
+abbrev pub whole_below : ℕ → Data → Result ℕ SnapshotFault
+whole_below limit d = or_shape (option_and_then (below limit) (option_and_then as_u64 (option_and_then as_number (Some d))))
+
+-- the number at this place of a row
+abbrev pub number_at : ℕ → ℕ → Items → Result ℕ SnapshotFault
+number_at place limit row = or_shape (get_item place row) >>= whole_below limit
+
+abbrev pub items_count : Items → ℕ
+items_count no_items = 0
+items_count (item d ds) = suc (items_count ds)
+
+abbrev pub members_count : Members → ℕ
+members_count no_members = 0
+members_count (member k d ms) = suc (members_count ms)
+
+-- the row, if it has so many places
+abbrev pub row_of : ℕ → Data → Result Items SnapshotFault
+row_of count d = or_shape (option_and_then (λ row. if items_count row == count then Some row else None) (as_array d))
+
+abbrev pub rights_at : ℕ → Items → Result Rights SnapshotFault
+rights_at place row = do
+  bits ← number_at place 8 row
+  or_shape (rights_of_bits bits)
+
+-- the name whose number and processor stand from this place on
+abbrev pub name_at : ℕ → Items → Result RecordId SnapshotFault
+name_at place row = do
+  number ← number_at place (2 ^ 64) row
+  processor ← number_at (place + 1) 256 row
+  Ok (record { number = number; processor = processor })
+
+abbrev pub space_of : Data → Result Space SnapshotFault
+space_of d = do
+  number ← whole_below 65536 d
+  Ok (record { number = number })
+
+abbrev pub space_at : ℕ → Items → Result Space SnapshotFault
+space_at place row = or_shape (get_item place row) >>= space_of
+
+-- a place by its first page and its order, before it is looked at
+pub record Unplaced : Type 0 where
+  pub page : ℕ
+  pub order : ℕ
+
+abbrev pub unplaced_at : ℕ → Items → Result Unplaced SnapshotFault
+unplaced_at place row = do
+  page ← number_at place (2 ^ 32) row
+  order ← number_at (place + 1) 256 row
+  Ok (record { page = page; order = order })
+
+-- a value that stands at a place, which is looked at later
+pub record Somewhere (A : Type 0) : Type 0 where
+  pub place : Unplaced
+  pub value : Place → A
+
+-- [number, processor, space, page, s, parent number, parent processor, source page, rights]
+abbrev pub record_of : Data → Result (Somewhere Op) SnapshotFault
+record_of d = do
+  row ← row_of 9 d
+  id ← name_at 0 row
+  space ← space_at 2 row
+  place ← unplaced_at 3 row
+  parent ← name_at 5 row
+  source ← number_at 7 (2 ^ 32) row
+  rights ← rights_at 8 row
+  Ok (record {
+    place = place;
+    value = λ at. Born (record { id = id; space = space; place = at; parent = parent; source = source; rights = rights });
+  })
+
+-- [number, processor, page, s, rights]
+abbrev pub cut_of : Data → Result (Somewhere Op) SnapshotFault
+cut_of d = do
+  row ← row_of 5 d
+  target ← name_at 0 row
+  place ← unplaced_at 2 row
+  rights ← rights_at 4 row
+  Ok (record { place = place; value = λ at. Cut (record { target = target; part = at; rights = rights }) })
+
+abbrev pub end_of : Data → Result Op SnapshotFault
+end_of d = do
+  space ← space_of d
+  Ok (Closed space)
+
+-- each value of a list, up to the first fault
+abbrev pub all_of : {A : Type 0} → (Data → Result A SnapshotFault) → Items → Result (List A) SnapshotFault
+all_of read_one no_items = Ok []
+all_of read_one (item d ds) = do
+  one ← read_one d
+  rest ← all_of read_one ds
+  Ok (one ∷ rest)
+
+-- the list under a key
+abbrev pub list_under : {A : Type 0} → List ℕ → (Data → Result A SnapshotFault) → Members → Result (List A) SnapshotFault
+list_under key read_one members = or_shape (option_and_then as_array (get_member key members)) >>= all_of read_one
+
+abbrev pub or_page : {A : Type 0} → (Place → A) → Result Place FpageFault → Result A SnapshotFault
+or_page value (Ok place) = Ok (value place)
+or_page value (Err f) = Err (fault.Page f)
+
+-- the values at their places, or the fault of the first place that is none
+abbrev pub placed_all : {A : Type 0} → List (Somewhere A) → Result (List A) SnapshotFault
+placed_all [] = Ok []
+placed_all (one ∷ rest) = do
+  first ← or_page one.value (place_at (one.place.page * page_bytes) one.place.order)
+  others ← placed_all rest
+  Ok (first ∷ others)
+
+abbrev pub version_of : Members → Result ℕ SnapshotFault
+version_of members = or_shape (get_member (codes "version") members) >>= whole_below (2 ^ 64)
+
+-- the lists of a snapshot of this version, in which no other key stands
+abbrev pub lists_of : Members → Result (List Op) SnapshotFault
+lists_of members = do
+  cuts ← list_under (codes "cuts") cut_of members
+  ends ← list_under (codes "ended") end_of members
+  records ← list_under (codes "records") record_of members
+  born ← placed_all records
+  cut ← placed_all cuts
+  Ok (born ++ cut ++ ends)
+
+-- What JSON says as a snapshot: the records, then the revocations, then the ends, each in the order of the text.
+abbrev pub operations_of : Data → Result (List Op) SnapshotFault
+operations_of d = do
+  members ← or_shape (as_object d)
+  version ← version_of members
+  if version == SNAPSHOT_VERSION
+      then (if members_count members == 4 then lists_of members else Err fault.Shape)
+      else Err fault.Version
+
+abbrev pub or_not_json : Option Data → Result (List Op) SnapshotFault
+or_not_json None = Err fault.NotJson
+or_not_json (Some d) = operations_of d
+
+-- what a text says
+abbrev pub snapshot_of : List ℕ → Result (List Op) SnapshotFault
+snapshot_of bytes = if is_utf8 bytes then or_not_json (read bytes) else Err fault.NotJson
