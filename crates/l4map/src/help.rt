@@ -26,12 +26,15 @@ Lines of a script:
   end P S                    at processor P, space S ends, for good
   rights P S ADDR            asks for the frames and the rights of space S at address ADDR
   served P S ADDR            asks for the frame that the page at ADDR of space S is served from
+  tree S ADDR                asks what the sequential tree of processor 0's accepted commands has there
   send P I J                 makes a message of the operations of P's copy, in order of arrival,
                              from the mark I on and up to before the mark J
   deliver M P                brings message M to processor P, whose copy takes its operations
   merge P Q                  has P's copy take all that Q's copy holds
   same P Q                   asks whether both copies hold the same
   covers P Q                 asks whether P's copy holds all that Q's copy holds
+  save P                     asks for the snapshot of P's copy, as JSON
+  load P TEXT                has P's copy take what a snapshot says
   # ...                      a comment
 
 Words of a line:

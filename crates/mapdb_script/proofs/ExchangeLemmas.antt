@@ -3,13 +3,16 @@ use Rattle.std.proofs.Common.{◌≡◌, ◌≢◌, ℕ, ◌<◌, ◌⊎◌, inl
 use Rattle.std.proofs.lemmas.Bool.{lt-ltb, ltb-false}
 use Rattle.std.proofs.lemmas.Bool.Decides.{nat_tests}
 use Rattle.std.proofs.lemmas.Option.{get_or_from_slice_get, slice_get_cases, slice_get_past, slice_get_read, slice_get_within}
+use Rattle.std.specs.Result.{is_ok}
 use Rattle.std.specs.Prelude.{Option, Some, None, Result, Ok, Err, nat_lt, ◌==◌, slice_get}
 use Rattle.mapdb_facts.specs.declared.operations.Op.{Op}
 use Rattle.mapdb_replica.specs.Replica.{Log}
 use Rattle.mapdb_replica.specs.Taking.{IsRefusedAs, Takes, take_outcome}
 use Rattle.mapdb_replica.specs.declared.faults.TakeFault.{TakeFault}
 use Rattle.mapdb_replica.specs.declared.faults.TakeFault.TheVariants as take
-use Rattle.mapdb_script.specs.Cluster.{Cluster, Done, answered, at_copy, at_processor, at_processors, batch_refusal, delivered, merged, refused, take_done, with_copy}
+use Rattle.mapdb_snapshot.specs.declared.faults.SnapshotFault.{SnapshotFault}
+use Rattle.mapdb_script.specs.Cluster.{Cluster, Done, answered, at_copy, at_processor, at_processors, batch_refusal, delivered, loaded, merged}
+use Rattle.mapdb_script.specs.Cluster.{refused, take_done, with_copy, with_heard}
 use Rattle.mapdb_script.specs.Reply.{taken_text}
 use Rattle.mapdb_replica.specs.Merging.{Merges}
 use Rattle.mapdb_script.specs.States.{Answers, Does, IsTakeTold}
@@ -49,7 +52,7 @@ refused_told cluster refusal fault result (inr e) told = let wanted = rw e at to
 
 taken_told : (cluster : Cluster) (at : ℕ) (copy new : Log) (batch : List Op) (outcome : Result (List Op) TakeFault) (taken : Result ℕ TakeFault) (result : Result Answer TurnFault)
     → copy ≡ get_or cluster.copies at copy → Takes batch outcome taken copy new → IsTakeTold taken result
-    → Does result (with_copy cluster at new) (Ok (take_done cluster at copy outcome))
+    → Does result (with_heard (with_copy cluster at new) at (is_ok taken)) (Ok (take_done cluster at copy outcome))
 taken_told cluster at copy new batch (Ok ops) (Ok count) (Ok reply) is takes told = rw (told, takes.0, takes.1) refl
 taken_told cluster at copy new batch (Ok ops) (Ok count) (Err f) is takes told = rw told tt
 taken_told cluster at copy new batch (Ok ops) (Err (take.Memory n)) result is takes told = rw told tt
@@ -65,10 +68,21 @@ taken_told cluster at copy new batch (Err refusal) (Err fault) result is takes t
 pub delivery_told : (cluster : Cluster) (at message : ℕ) (copy new : Log) (batch : List Op) (taken : Result ℕ TakeFault) (result : Result Answer TurnFault)
     → at < length cluster.copies → copy ≡ get_or cluster.copies at copy → slice_get cluster.messages message ≡ Some batch
     → Takes batch (take_outcome copy.ops batch) taken copy new → IsTakeTold taken result
-    → Does result (with_copy cluster at new) (at_processor cluster at (delivered cluster at (slice_get cluster.messages message)))
+    → Does result (with_heard (with_copy cluster at new) at (is_ok taken))
+    (at_processor cluster at (delivered cluster at (slice_get cluster.messages message)))
 delivery_told cluster at message copy new batch taken result within is sent takes told =
     let done : at_processor cluster at (delivered cluster at (slice_get cluster.messages message)) ≡ Ok (take_done cluster at copy (take_outcome copy.ops batch)) =
     at_processor_there cluster at copy (delivered cluster at (slice_get cluster.messages message)) within is ∙ rw sent refl in
+    rw done (taken_told cluster at copy new batch (take_outcome copy.ops batch) taken result is takes told)
+
+-- a snapshot whose operations a copy was given
+pub load_told : (cluster : Cluster) (at : ℕ) (copy new : Log) (said : Result (List Op) SnapshotFault) (batch : List Op) (taken : Result ℕ TakeFault)
+    (result : Result Answer TurnFault) → at < length cluster.copies → copy ≡ get_or cluster.copies at copy → said ≡ Ok batch
+    → Takes batch (take_outcome copy.ops batch) taken copy new → IsTakeTold taken result
+    → Does result (with_heard (with_copy cluster at new) at (is_ok taken)) (at_processor cluster at (loaded cluster at said))
+load_told cluster at copy new said batch taken result within is e takes told =
+    let done : at_processor cluster at (loaded cluster at said) ≡ Ok (take_done cluster at copy (take_outcome copy.ops batch)) =
+    at_processor_there cluster at copy (loaded cluster at said) within is ∙ rw e refl in
     rw done (taken_told cluster at copy new batch (take_outcome copy.ops batch) taken result is takes told)
 
 -- the second of two processors is not there
@@ -99,17 +113,17 @@ answer_told cluster text (Ok reply) told = rw told refl
 answer_told cluster text (Err f) told = rw told tt
 
 merge_same_by : (cluster : Cluster) (at : ℕ) (copy : Log) (result : Result Answer TurnFault) → slice_get cluster.copies at ≡ Some copy → Answers (taken_text 0) result
-    → Does result cluster (at_processors cluster at at (merged cluster at at))
+    → Does result (with_heard cluster at true) (at_processors cluster at at (merged cluster at at))
 merge_same_by cluster at copy result there told =
     let within = slice_get_within cluster.copies at copy there in
     let is : copy ≡ get_or cluster.copies at copy = sym (get_or_from_slice_get cluster.copies at copy copy there) in
-    let done : at_processors cluster at at (merged cluster at at) ≡ Ok (answered cluster (taken_text 0)) =
+    let done : at_processors cluster at at (merged cluster at at) ≡ Ok (answered (with_heard cluster at true) (taken_text 0)) =
     at_processors_there cluster at at copy copy (merged cluster at at) within within is is ∙ rw (eq-eqb at at refl) refl in
-    rw done (answer_told cluster (taken_text 0) result told)
+    rw done (answer_told (with_heard cluster at true) (taken_text 0) result told)
 
 -- a copy that takes all of itself
 pub merge_same : (cluster : Cluster) (into from : ℕ) (result : Result Answer TurnFault) → into < length cluster.copies → into ≡ from → Answers (taken_text 0) result
-    → Does result cluster (at_processors cluster into from (merged cluster into from))
+    → Does result (with_heard cluster into true) (at_processors cluster into from (merged cluster into from))
 merge_same cluster into from result within e told = elim (slice_get_cases cluster.copies into).1 [
   | inl found ↦ rw (← e) (merge_same_by cluster into found.0 result found.2 told)
   | inr past ↦ absurd (omega (arith, past.0))
@@ -118,7 +132,8 @@ merge_same cluster into from result within e told = elim (slice_get_cases cluste
 -- a copy that was given all that another one holds
 pub merge_told : (cluster : Cluster) (into from : ℕ) (copies : List Log) (taken : Result ℕ TakeFault) (result : Result Answer TurnFault)
     → into ≢ from → Merges cluster.copies into from taken copies → IsTakeTold taken result
-    → Does result (record cluster { copies = copies }) (at_processors cluster into from (merged cluster into from))
+    → Does result (with_heard (record cluster { copies = copies }) into (is_ok taken))
+    (at_processors cluster into from (merged cluster into from))
 merge_told cluster into from copies taken result apart merges told =
     let one = merges.one in
     let other = merges.other in

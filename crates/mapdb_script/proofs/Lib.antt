@@ -5,3 +5,4 @@ pub mod ReplyLemmas
 pub mod RunLemmas
 pub mod ClusterLemmas
 pub mod ExchangeLemmas
+pub mod ReplayLemmas

@@ -7,6 +7,8 @@ pub mod Spellings
 pub mod Grammar
 pub mod Reading
 pub mod Fronts
+pub mod Replaying
+pub mod Accepting
 pub mod Reply
 pub mod Cluster
 pub mod Script

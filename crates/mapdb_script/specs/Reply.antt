@@ -7,6 +7,11 @@ use Rattle.mapdb_facts.specs.declared.checking.OpFault.{OpFault}
 use Rattle.mapdb_facts.specs.declared.checking.OpFault.TheVariants as op
 use Rattle.mapdb_facts.specs.declared.names.RecordId.{RecordId}
 use Rattle.mapdb_facts.specs.declared.names.Space.{Space}
+use Rattle.mapdb_snapshot.specs.declared.faults.SnapshotFault.{SnapshotFault}
+use Rattle.mapdb_snapshot.specs.declared.faults.SnapshotFault.TheVariants as snapshot
+use Rattle.mapdb_script.specs.Faults.{name_of, page_fault}
+use Rattle.mapdb_script.specs.declared.replay.TreeAnswer.{TreeAnswer}
+use Rattle.mapdb_script.specs.declared.replay.TreeAnswer.TheVariants as tree
 use Rattle.mapdb_script.specs.declared.replies.Refusal.{Refusal}
 use Rattle.mapdb_script.specs.declared.replies.Refusal.TheVariants as refusal
 
@@ -49,6 +54,12 @@ abbrev pub served_text : Option (ℕ × Rights) → List ℕ
 served_text None = codes "served none"
 served_text (Some mapping) = codes "served " ++ mapping_text mapping.0 mapping.1
 
+-- what the sequential tree has at a page
+abbrev pub tree_text : TreeAnswer → List ℕ
+tree_text tree.NotComparable = codes "tree not comparable"
+tree_text tree.Nothing = codes "tree none"
+tree_text (tree.Mapped frame rights) = codes "tree " ++ mapping_text frame rights
+
 -- the number of a message, and how many operations it has
 abbrev pub message_text : ℕ → ℕ → List ℕ
 message_text number count = codes "message " ++ (decimal number ++ (codes " " ++ decimal count))
@@ -66,6 +77,18 @@ same_text false = codes "same no"
 abbrev pub covers_text : Bool → List ℕ
 covers_text true = codes "covers yes"
 covers_text false = codes "covers no"
+
+-- the text of a snapshot
+abbrev pub saved_text : List ℕ → List ℕ
+saved_text text = codes "snapshot " ++ text
+
+-- why a text is no snapshot; no reply tells a want of memory
+abbrev pub snapshot_name : SnapshotFault → List ℕ
+snapshot_name snapshot.NotJson = codes "not-json"
+snapshot_name snapshot.Shape = codes "shape"
+snapshot_name snapshot.Version = codes "version"
+snapshot_name (snapshot.Page fault) = name_of (page_fault fault)
+snapshot_name snapshot.Memory = codes "memory"
 
 -- why an operation is not well-formed
 abbrev pub bad_name : OpFault → List ℕ
@@ -87,3 +110,4 @@ refusal_text refusal.NumbersSpent = codes "refused numbers-spent"
 refusal_text refusal.Full = codes "refused full"
 refusal_text (refusal.Bad place why) = codes "refused bad " ++ (decimal place ++ (codes " " ++ bad_name why))
 refusal_text (refusal.Clash id) = codes "refused clash " ++ name_text id
+refusal_text (refusal.Snapshot fault) = codes "refused snapshot " ++ snapshot_name fault

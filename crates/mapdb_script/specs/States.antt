@@ -17,7 +17,7 @@ use Rattle.mapdb_script.specs.declared.turn_fault.TurnFault.TheVariants as turn
 
 -- the cluster of copies, with its messages
 abbrev pub cluster_of : Copies → Cluster
-cluster_of c = record { copies = c.copies.items; messages = c.messages.items }
+cluster_of c = record { copies = c.copies.items; messages = c.messages.items; accepted = c.sequence }
 
 -- the state of a script
 abbrev pub state_of : Engine → State

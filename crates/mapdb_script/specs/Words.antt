@@ -1,5 +1,5 @@
 -- The words of a line, and the numbers that words spell.
-use Rattle.std.specs.Prelude.{ℕ, ◌+◌, ◌*◌, ◌-◌, ◌&&◌, List, [], ◌∷◌, Bool, true, false, length, filter, Option, Some, None, if◌then◌else◌, ◌==◌, nat_lt, nat_le}
+use Rattle.std.specs.Prelude.{ℕ, zero, suc, ◌+◌, ◌*◌, ◌-◌, ◌&&◌, List, [], ◌∷◌, Bool, true, false, length, filter, Option, Some, None, if◌then◌else◌, ◌==◌, nat_lt, nat_le}
 use Rattle.std.specs.List.{list_all}
 use Rattle.mapdb_script.specs.Lines.{onto_first, before, beyond}
 
@@ -21,6 +21,11 @@ words_of line = filter is_filled (parts_of line)
 unfoldable pub behind_spaces : List ℕ → List ℕ
 behind_spaces [] = []
 behind_spaces (b ∷ bytes) = if b == 32 then behind_spaces bytes else b ∷ bytes
+
+-- what stands behind so many words and the spaces after them
+abbrev pub behind_words : ℕ → List ℕ → List ℕ
+behind_words zero line = behind_spaces line
+behind_words (suc count) line = behind_words count (beyond 32 (behind_spaces line))
 
 -- what stands before a byte and behind it, if the byte is there
 abbrev pub cut_by : List ℕ → List ℕ → Option (List ℕ × List ℕ)

@@ -10,11 +10,13 @@ use crate::lines::Line;
 use crate::messages::Message;
 use crate::replies::{
     Refusal, ended_text, records_text, revocations_text, rights_text, served_text, taken_text,
+    tree_text,
 };
+use crate::sequence::{Sequence, map_command, unmap_command};
 use crate::turn_fault::TurnFault;
 use mapdb_facts::Space;
 use mapdb_fpage::{Fpage, MapItem, PAGE_BYTES, Rights};
-use mapdb_replica::{IssueFault, Replica, TakeFault};
+use mapdb_replica::{Command, IssueFault, Replica, TakeFault};
 use std::alloc::{AllocError, Global};
 
 /// What a line is answered.
@@ -107,17 +109,17 @@ pub struct Cluster {
     pub(crate) copies: Vec<Replica>,
     /// Messages are kept for good.
     pub(crate) messages: Vec<Message>,
+    /// What processor 0 accepted of its commands.
+    pub(crate) sequence: Sequence,
 }
 
 impl Cluster {
     ghost use Rattle.std.specs.Prelude.{◌≡◌, ◌≤◌, ◌<◌, ◌/◌, IfOk, IfSome, Ok, Err, Some, None, length, nat_lt, if◌then◌else◌};
-    ghost use Rattle.mapdb_script.specs.Cluster.{answered, at_processor, begin, count_text, done_by, issue_done, names_text, no_copies};
+    ghost use Rattle.mapdb_script.specs.Cluster.{answered, at_processor, begin, commanded, count_text, done_by, names_text, no_copies, tree_asked};
     ghost use Rattle.mapdb_script.specs.Reply.{ended_text, rights_text, served_text};
     ghost use Rattle.mapdb_script.specs.States.{Does, cluster_of};
     ghost use Rattle.mapdb_replica.specs.Pairs.{page_rights};
-    ghost use Rattle.mapdb_replica.specs.Replica.{map_outcome};
     ghost use Rattle.mapdb_replica.specs.Served.{served};
-    ghost use Rattle.mapdb_replica.specs.Unmap.{end_outcome, unmap_outcome};
 
     /// No cluster.
     pub fn new(alloc: Global) -> Self
@@ -127,6 +129,7 @@ impl Cluster {
             alloc,
             copies: Vec::new(alloc),
             messages: Vec::new(alloc),
+            sequence: Sequence::new(alloc),
         }
     }
 
@@ -140,6 +143,7 @@ impl Cluster {
         }
         self.copies = new_copies(self.alloc, count)?;
         self.messages = Vec::new(self.alloc);
+        self.sequence = Sequence::new(self.alloc);
         Ok(Reply::Silent)
     }
 
@@ -171,14 +175,15 @@ impl Cluster {
         window: Option<Fpage>,
     ) -> Result<Reply, TurnFault>
         ensures { Does result (cluster_of self.new) (at_processor (cluster_of self.old) at
-            (λ copy. issue_done (cluster_of self.old) at copy names_text
-            (map_outcome copy sender item receiver window))) }
+            (commanded (cluster_of self.old) at (Command.Map sender item receiver window) names_text)) }
     {
+        let command = map_command(sender, &item, receiver, &window);
         let Some(at) = self.place(at)? else {
             return Ok(Reply::Refused(Refusal::NoProcessor));
         };
         match self.copies[at].map(sender, &item, receiver, window) {
             Ok(ids) => {
+                self.sequence.accept(at, &command)?;
                 let text = records_text(self.alloc, ids.as_slice())?;
                 Ok(Reply::Answered(text))
             }
@@ -196,14 +201,15 @@ impl Cluster {
         flush: bool,
     ) -> Result<Reply, TurnFault>
         ensures { Does result (cluster_of self.new) (at_processor (cluster_of self.old) at
-            (λ copy. issue_done (cluster_of self.old) at copy count_text
-            (unmap_outcome copy space page rights flush))) }
+            (commanded (cluster_of self.old) at (Command.Unmap space page rights flush) count_text)) }
     {
+        let command = unmap_command(space, &page, rights, flush);
         let Some(at) = self.place(at)? else {
             return Ok(Reply::Refused(Refusal::NoProcessor));
         };
         match self.copies[at].unmap(space, page, rights, flush) {
             Ok(count) => {
+                self.sequence.accept(at, &command)?;
                 let text = revocations_text(self.alloc, count)?;
                 Ok(Reply::Answered(text))
             }
@@ -214,13 +220,14 @@ impl Cluster {
     /// Ends a space at a processor.
     fn end(&mut self, at: u8, space: Space) -> Result<Reply, TurnFault>
         ensures { Does result (cluster_of self.new) (at_processor (cluster_of self.old) at
-            (λ copy. issue_done (cluster_of self.old) at copy (λ _. ended_text space) (end_outcome copy space))) }
+            (commanded (cluster_of self.old) at (Command.End space) (λ _. ended_text space))) }
     {
         let Some(at) = self.place(at)? else {
             return Ok(Reply::Refused(Refusal::NoProcessor));
         };
         match self.copies[at].end(space) {
             Ok(()) => {
+                self.sequence.accept(at, &Command::End { space })?;
                 let text = ended_text(self.alloc, space)?;
                 Ok(Reply::Answered(text))
             }
@@ -254,10 +261,22 @@ impl Cluster {
         Ok(Reply::Answered(text))
     }
 
+    /// Asks the sequential tree of processor 0's commands for a page.
+    fn tree(&mut self, space: Space, address: u32) -> Result<Reply, TurnFault>
+        ensures { Does result (cluster_of self.new) (tree_asked (cluster_of self.old) space address) }
+    {
+        if self.copies.is_empty() {
+            return Err(TurnFault::Line(LineFault::NoProcessors));
+        }
+        let answer = self.sequence.tree_at(space, address / PAGE_BYTES)?;
+        let text = tree_text(self.alloc, answer)?;
+        Ok(Reply::Answered(text))
+    }
+
     /// Does what a line says.
     #[tactic(auto, unfolding(crate::specs::Cluster::done_by))]
-    pub fn answer(&mut self, line: Line) -> Result<Reply, TurnFault>
-        ensures { Does result (cluster_of self.new) (done_by (cluster_of self.old) line) }
+    pub fn answer(&mut self, line: Line<'_>) -> Result<Reply, TurnFault>
+        ensures { Does result (cluster_of self.new) (done_by (cluster_of self.old) line.entry) }
     {
         match line {
             Line::Processors(count) if count == 0 || count > MOST_PROCESSORS => {
@@ -273,11 +292,14 @@ impl Cluster {
             Line::End(at, space) => self.end(at, space),
             Line::Rights(at, space, address) => self.rights(at, space, address),
             Line::Served(at, space, address) => self.served(at, space, address),
+            Line::Tree(space, address) => self.tree(space, address),
             Line::Send(at, first, end) => self.send(at, first, end),
             Line::Deliver(message, at) => self.deliver(message, at),
             Line::Merge(into, from) => self.merge(into, from),
             Line::Same(at, other) => self.same(at, other),
             Line::Covers(at, other) => self.covers(at, other),
+            Line::Save(at) => self.save(at),
+            Line::Load(at, text) => self.load(at, text),
         }
     }
 }

@@ -80,9 +80,9 @@ impl Engine {
     }
 
     /// Does what a line says, if it says something, and counts it.
-    fn take(&mut self, said: Option<Line>) -> Result<String, TurnFault>
+    fn take(&mut self, said: Option<Line<'_>>) -> Result<String, TurnFault>
         requires { (state_of self.old).counts.lines < most_lines }
-        ensures { Turns (seen result) (state_of self.new) (turn_of (state_of self.old) said) }
+        ensures { Turns (seen result) (state_of self.new) (turn_of (state_of self.old) said.entry) }
     {
         let Some(line) = said else {
             self.lines += 1;

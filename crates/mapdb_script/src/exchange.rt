@@ -61,6 +61,7 @@ impl Cluster {
             return Ok(Reply::Refused(Refusal::NoMessage));
         };
         let taken = self.copies[at].take(message.ops());
+        self.sequence.hear(at, taken.is_ok());
         Reply::taken(self.alloc, taken)
     }
 
@@ -73,9 +74,11 @@ impl Cluster {
             return Ok(Reply::Refused(Refusal::NoProcessor));
         };
         if into == from {
+            self.sequence.hear(into, true);
             return Reply::taken(self.alloc, Ok(0));
         }
         let taken = merge_among(self.copies.as_mut_slice(), into, from);
+        self.sequence.hear(into, taken.is_ok());
         Reply::taken(self.alloc, taken)
     }
 

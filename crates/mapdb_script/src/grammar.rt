@@ -2,13 +2,16 @@
 
 ghost use Rattle.std.specs.Prelude.{◌≡◌};
 ghost use Rattle.mapdb_script.specs.Lines.{without_return};
-ghost use Rattle.mapdb_script.specs.Words.{words_of};
-ghost use Rattle.mapdb_script.specs.Grammar.{processors_at, map_at, words_map_at, unmapping_at, ending_at, page_query_at, sending_at, delivery_at, pair_at, keyword_of, is_comment, line_at, said_by};
+ghost use Rattle.mapdb_script.specs.Words.{words_of, behind_words};
+ghost use Rattle.mapdb_script.specs.Grammar.{processors_at, map_at, words_map_at, unmapping_at, ending_at, page_query_at, tree_query_at, sending_at, delivery_at, pair_at, saving_at, loading_at, keyword_of, is_comment, line_at, said_by};
 
 use crate::fault::LineFault;
 use crate::lines::Line;
 use crate::spellings::{address, base, fpage, item, mark, mode, processor, send, space, window};
-use crate::words::{four_words, next_word, one_word, six_words, three_words, two_words};
+use crate::text::Text;
+use crate::words::{
+    four_words, next_word, one_word, six_words, skip_spaces, three_words, two_words,
+};
 use mapdb_facts::Space;
 use mapdb_fpage::MapItem;
 
@@ -29,6 +32,8 @@ enum Keyword {
     Rights,
     /// `served`.
     Served,
+    /// `tree`.
+    Tree,
     /// `send`.
     Send,
     /// `deliver`.
@@ -39,6 +44,10 @@ enum Keyword {
     Same,
     /// `covers`.
     Covers,
+    /// `save`.
+    Save,
+    /// `load`.
+    Load,
 }
 
 /// A line without the byte 0D at its end.
@@ -53,7 +62,7 @@ fn without_return(line: &[u8]) -> &[u8]
 
 /// `processors N`.
 #[tactic(auto, unfolding(crate::specs::Grammar::processors_at))]
-fn processors_line(words: &[u8]) -> Result<Line, LineFault>
+fn processors_line<'a>(words: &[u8]) -> Result<Line<'a>, LineFault>
     ensures { result ≡ processors_at (words_of words.now) }
 {
     let Some(count) = one_word(words) else {
@@ -65,7 +74,7 @@ fn processors_line(words: &[u8]) -> Result<Line, LineFault>
 
 /// `map P S SEND BASE R FPAGE`.
 #[tactic(auto, unfolding(crate::specs::Grammar::map_at))]
-fn map_line(words: &[u8]) -> Result<Line, LineFault>
+fn map_line<'a>(words: &[u8]) -> Result<Line<'a>, LineFault>
     ensures { result ≡ map_at (words_of words.now) }
 {
     let Some((at, sender, item, send_base, receiver, window)) = six_words(words) else {
@@ -87,7 +96,7 @@ fn map_line(words: &[u8]) -> Result<Line, LineFault>
 
 /// `words P S FIRST SECOND R WINDOW`.
 #[tactic(auto, unfolding(crate::specs::Grammar::words_map_at))]
-fn words_map_line(words: &[u8]) -> Result<Line, LineFault>
+fn words_map_line<'a>(words: &[u8]) -> Result<Line<'a>, LineFault>
     ensures { result ≡ words_map_at (words_of words.now) }
 {
     let Some((at, sender, first, second, receiver, taken)) = six_words(words) else {
@@ -103,7 +112,7 @@ fn words_map_line(words: &[u8]) -> Result<Line, LineFault>
 
 /// `unmap P S SEND MODE`.
 #[tactic(auto, unfolding(crate::specs::Grammar::unmapping_at))]
-fn unmapping_line(words: &[u8]) -> Result<Line, LineFault>
+fn unmapping_line<'a>(words: &[u8]) -> Result<Line<'a>, LineFault>
     ensures { result ≡ unmapping_at (words_of words.now) }
 {
     let Some((at, invoker, part, how)) = four_words(words) else {
@@ -118,7 +127,7 @@ fn unmapping_line(words: &[u8]) -> Result<Line, LineFault>
 
 /// `end P S`.
 #[tactic(auto, unfolding(crate::specs::Grammar::ending_at))]
-fn ending_line(words: &[u8]) -> Result<Line, LineFault>
+fn ending_line<'a>(words: &[u8]) -> Result<Line<'a>, LineFault>
     ensures { result ≡ ending_at (words_of words.now) }
 {
     let Some((at, ended)) = two_words(words) else {
@@ -143,9 +152,22 @@ fn page_query(words: &[u8]) -> Result<(u8, Space, u32), LineFault>
     Ok((at, asked, byte))
 }
 
+/// `tree S ADDR`.
+#[tactic(auto, unfolding(crate::specs::Grammar::tree_query_at))]
+fn tree_query_line<'a>(words: &[u8]) -> Result<Line<'a>, LineFault>
+    ensures { result ≡ tree_query_at (words_of words.now) }
+{
+    let Some((asked, byte)) = two_words(words) else {
+        return Err(LineFault::Words);
+    };
+    let asked = space(asked)?;
+    let byte = address(byte)?;
+    Ok(Line::Tree(asked, byte))
+}
+
 /// `send P I J`.
 #[tactic(auto, unfolding(crate::specs::Grammar::sending_at))]
-fn sending_line(words: &[u8]) -> Result<Line, LineFault>
+fn sending_line<'a>(words: &[u8]) -> Result<Line<'a>, LineFault>
     ensures { result ≡ sending_at (words_of words.now) }
 {
     let Some((at, first, end)) = three_words(words) else {
@@ -159,7 +181,7 @@ fn sending_line(words: &[u8]) -> Result<Line, LineFault>
 
 /// `deliver M P`.
 #[tactic(auto, unfolding(crate::specs::Grammar::delivery_at))]
-fn delivery_line(words: &[u8]) -> Result<Line, LineFault>
+fn delivery_line<'a>(words: &[u8]) -> Result<Line<'a>, LineFault>
     ensures { result ≡ delivery_at (words_of words.now) }
 {
     let Some((message, at)) = two_words(words) else {
@@ -183,6 +205,34 @@ fn processor_pair(words: &[u8]) -> Result<(u8, u8), LineFault>
     Ok((at, other))
 }
 
+/// `save P`.
+#[tactic(auto, unfolding(crate::specs::Grammar::saving_at))]
+fn saving_line<'a>(words: &[u8]) -> Result<Line<'a>, LineFault>
+    ensures { result ≡ saving_at (words_of words.now) }
+{
+    let Some(at) = one_word(words) else {
+        return Err(LineFault::Words);
+    };
+    let at = processor(at)?;
+    Ok(Line::Save(at))
+}
+
+/// `load P TEXT`, whose text is what stands behind the spaces after P.
+#[tactic(auto, using(crate::proofs::WordLemmas::words_none, crate::proofs::WordLemmas::words_next), unfolding(crate::specs::Grammar::loading_at))]
+fn loading_line<'a>(words: &'a [u8]) -> Result<Line<'a>, LineFault>
+    ensures { result ≡ loading_at (words_of words.now) (behind_words 1 words.now) }
+{
+    let Some((at, rest)) = next_word(words) else {
+        return Err(LineFault::Words);
+    };
+    let text = skip_spaces(rest);
+    if text.is_empty() {
+        return Err(LineFault::Words);
+    }
+    let at = processor(at)?;
+    Ok(Line::Load(at, Text::new(text)))
+}
+
 /// What the first word says the line does.
 fn keyword_of(word: &[u8]) -> Option<Keyword>
     ensures { result ≡ keyword_of word.now }
@@ -201,6 +251,8 @@ fn keyword_of(word: &[u8]) -> Option<Keyword>
         Some(Keyword::Rights)
     } else if word == b"served".as_slice() {
         Some(Keyword::Served)
+    } else if word == b"tree".as_slice() {
+        Some(Keyword::Tree)
     } else if word == b"send".as_slice() {
         Some(Keyword::Send)
     } else if word == b"deliver".as_slice() {
@@ -211,6 +263,10 @@ fn keyword_of(word: &[u8]) -> Option<Keyword>
         Some(Keyword::Same)
     } else if word == b"covers".as_slice() {
         Some(Keyword::Covers)
+    } else if word == b"save".as_slice() {
+        Some(Keyword::Save)
+    } else if word == b"load".as_slice() {
+        Some(Keyword::Load)
     } else {
         None
     }
@@ -228,8 +284,8 @@ fn is_comment(word: &[u8]) -> bool
 
 /// What a line says, by its first word and the bytes behind it.
 #[tactic(auto, unfolding(crate::specs::Grammar::line_at))]
-fn line_of(keyword: Option<Keyword>, words: &[u8]) -> Result<Line, LineFault>
-    ensures { result ≡ line_at keyword (words_of words.now) }
+fn line_of<'a>(keyword: Option<Keyword>, words: &'a [u8]) -> Result<Line<'a>, LineFault>
+    ensures { result ≡ line_at keyword (words_of words.now) (behind_words 1 words.now) }
 {
     match keyword {
         None => Err(LineFault::Unknown),
@@ -246,6 +302,7 @@ fn line_of(keyword: Option<Keyword>, words: &[u8]) -> Result<Line, LineFault>
             let (at, asked, byte) = page_query(words)?;
             Ok(Line::Served(at, asked, byte))
         }
+        Some(Keyword::Tree) => tree_query_line(words),
         Some(Keyword::Send) => sending_line(words),
         Some(Keyword::Deliver) => delivery_line(words),
         Some(Keyword::Merge) => {
@@ -260,6 +317,8 @@ fn line_of(keyword: Option<Keyword>, words: &[u8]) -> Result<Line, LineFault>
             let (at, other) = processor_pair(words)?;
             Ok(Line::Covers(at, other))
         }
+        Some(Keyword::Save) => saving_line(words),
+        Some(Keyword::Load) => loading_line(words),
     }
 }
 
@@ -268,7 +327,7 @@ fn line_of(keyword: Option<Keyword>, words: &[u8]) -> Result<Line, LineFault>
 ///
 /// The first word is looked at before the number of words, and that before the words from left to right.
 #[tactic(auto, unfolding(crate::specs::Grammar::said_by, crate::specs::Grammar::said_at))]
-pub fn parse_line(bytes: &[u8]) -> Result<Option<Line>, LineFault>
+pub fn parse_line(bytes: &[u8]) -> Result<Option<Line<'_>>, LineFault>
     ensures { result ≡ said_by bytes.now }
 {
     let line = without_return(bytes);

@@ -14,10 +14,14 @@ mod lines;
 mod messages;
 mod number;
 mod reading;
+mod replay;
 mod replies;
 mod script;
+mod sequence;
+mod snapshots;
 mod spellings;
 mod streams;
+mod text;
 mod turn_fault;
 mod words;
 mod writing;
@@ -25,8 +29,10 @@ mod writing;
 pub use fault::{LineFault, ScriptFault, Summary};
 pub use grammar::parse_line;
 pub use lines::Line;
+pub use mapdb_snapshot::{SnapshotFault, snapshot_read, snapshot_text};
 pub use script::run;
 pub use streams::{Failed, FromRead, Sink, Source, ToWrite};
+pub use text::Text;
 pub use writing::write_all;
 
 #[cfg(test)]

@@ -1,10 +1,13 @@
 //! The texts of replies, without the end of their line.
 
 ghost use Rattle.std.specs.Prelude.{◌≡◌, ◌∷◌, ◌++◌, IfOk, string_bytes};
-ghost use Rattle.mapdb_script.specs.Reply.{name_text, frame_text, mapping_text, records_text, revocations_text, ended_text, rights_text, served_text, message_text, taken_text, same_text, covers_text, bad_name};
+ghost use Rattle.mapdb_script.specs.Reply.{name_text, frame_text, mapping_text, records_text, revocations_text, ended_text, rights_text, served_text, tree_text, message_text, taken_text, same_text, covers_text, saved_text, bad_name, snapshot_name};
 
+use crate::fault::LineFault;
+use crate::replay::TreeAnswer;
 use mapdb_facts::{OpFault, RecordId, Space};
 use mapdb_fpage::Rights;
+use mapdb_snapshot::SnapshotFault;
 use std::alloc::{AllocError, Global};
 
 /// Why a line does nothing. It is a reply, and the script goes on.
@@ -28,6 +31,8 @@ pub enum Refusal {
     Bad(usize, OpFault),
     /// Two different records have this name.
     Clash(RecordId),
+    /// The text is no snapshot.
+    Snapshot(SnapshotFault),
 }
 
 /// The name of a record: its number, a point, and its processor.
@@ -117,6 +122,20 @@ pub fn served_text(alloc: Global, mapping: Option<(u32, Rights)>) -> Result<Stri
     format!(in alloc; "served {text}")
 }
 
+/// `tree` and the frame with its rights, `tree none` or `tree not comparable`.
+pub fn tree_text(alloc: Global, answer: TreeAnswer) -> Result<String, AllocError>
+    ensures { IfOk result (λ text. string_bytes text ≡ tree_text answer) }
+{
+    match answer {
+        TreeAnswer::NotComparable => String::from_str(alloc, "tree not comparable"),
+        TreeAnswer::Nothing => String::from_str(alloc, "tree none"),
+        TreeAnswer::Mapped(frame, rights) => {
+            let mapping = mapping_text(alloc, frame, rights)?;
+            format!(in alloc; "tree {mapping}")
+        }
+    }
+}
+
 /// `message`, its number, and how many operations it has.
 pub fn message_text(alloc: Global, number: usize, count: usize) -> Result<String, AllocError>
     ensures { IfOk result (λ text. string_bytes text ≡ message_text number count) }
@@ -143,6 +162,26 @@ pub fn covers_text(alloc: Global, covers: bool) -> Result<String, AllocError>
     ensures { IfOk result (λ text. string_bytes text ≡ covers_text covers) }
 {
     String::from_str(alloc, if covers { "covers yes" } else { "covers no" })
+}
+
+/// `snapshot` and its text.
+pub fn saved_text(alloc: Global, snapshot: &str) -> Result<String, AllocError>
+    ensures { IfOk result (λ text. string_bytes text ≡ saved_text snapshot.now) }
+{
+    format!(in alloc; "snapshot {snapshot}")
+}
+
+/// The name that a fault of a snapshot has in the output. No reply tells a want of memory.
+fn snapshot_name(fault: SnapshotFault) -> &'static str
+    ensures { result.now ≡ snapshot_name fault }
+{
+    match fault {
+        SnapshotFault::NotJson => "not-json",
+        SnapshotFault::Shape => "shape",
+        SnapshotFault::Version => "version",
+        SnapshotFault::Page(fault) => LineFault::from(fault).name(),
+        SnapshotFault::Memory => "memory",
+    }
 }
 
 /// The name that a fault of an operation has in the output.
@@ -185,6 +224,10 @@ impl Refusal {
             Refusal::Clash(id) => {
                 let name = name_text(alloc, id)?;
                 format!(in alloc; "refused clash {name}")
+            }
+            Refusal::Snapshot(fault) => {
+                let name = snapshot_name(fault);
+                format!(in alloc; "refused snapshot {name}")
             }
         }
     }

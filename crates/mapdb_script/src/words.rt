@@ -33,7 +33,7 @@ pub fn cut(at: u8, word: &[u8]) -> Option<(&[u8], &[u8])>
 
 /// What stands behind the spaces at the front.
 #[tactic(auto, unfolding(crate::specs::Words::behind_spaces))]
-fn skip_spaces(line: &[u8]) -> &[u8]
+pub fn skip_spaces(line: &[u8]) -> &[u8]
     ensures { result.now ≡ behind_spaces line.now }
 {
     let mut rest = line;

@@ -29,6 +29,16 @@ pub fn writes(
     Ok(())
 }
 
+/// Runs a script to its end, which writes this.
+pub fn gives(rt: &impl Abort, alloc: Global, script: &str, output: &str) -> Result<(), Fail> {
+    let mut written = Vec::new(alloc);
+    let mut reader = FromRead::new(script.as_bytes());
+    let mut writer = ToWrite::new(&mut written);
+    run(alloc, &mut reader, &mut writer)?;
+    assert_eq!(rt; String::from_utf8(written)?.as_str(), output);
+    Ok(())
+}
+
 /// Runs a script that stops at a faulty line, and writes this.
 pub fn stops(
     rt: &impl Abort,
@@ -236,52 +246,55 @@ fn missing_things(rt: HostRuntime) -> Result<(), Fail> {
     Ok(())
 }
 
+/// Scripts whose line of this number has a fault, each with what it writes.
+const NO_CLUSTERS: [(&str, u64, LineFault, &str); 7] = [
+    (
+        "rights 0 0 0\n",
+        1,
+        LineFault::NoProcessors,
+        "line 1 fault no-processors\n",
+    ),
+    (
+        "\nserved 0 0 0\n",
+        2,
+        LineFault::NoProcessors,
+        "line 2 fault no-processors\n",
+    ),
+    (
+        "deliver 9 0\n",
+        1,
+        LineFault::NoProcessors,
+        "line 1 fault no-processors\n",
+    ),
+    (
+        "merge 0 0\n",
+        1,
+        LineFault::NoProcessors,
+        "line 1 fault no-processors\n",
+    ),
+    (
+        "#\nprocessors 0",
+        2,
+        LineFault::ProcessorCount,
+        "line 2 fault processor-count\n",
+    ),
+    (
+        "processors 64\nprocessors 65",
+        2,
+        LineFault::ProcessorCount,
+        "line 2 fault processor-count\n",
+    ),
+    (
+        "processors 1\n\nprocessors 1",
+        3,
+        LineFault::ProcessorsAgain,
+        "line 3 fault processors-again\n",
+    ),
+];
+
 #[test]
 fn clusters_are_made_once(rt: HostRuntime) -> Result<(), Fail> {
-    for (script, number, fault, output) in [
-        (
-            "rights 0 0 0\n",
-            1,
-            LineFault::NoProcessors,
-            "line 1 fault no-processors\n",
-        ),
-        (
-            "\nserved 0 0 0\n",
-            2,
-            LineFault::NoProcessors,
-            "line 2 fault no-processors\n",
-        ),
-        (
-            "deliver 9 0\n",
-            1,
-            LineFault::NoProcessors,
-            "line 1 fault no-processors\n",
-        ),
-        (
-            "merge 0 0\n",
-            1,
-            LineFault::NoProcessors,
-            "line 1 fault no-processors\n",
-        ),
-        (
-            "#\nprocessors 0",
-            2,
-            LineFault::ProcessorCount,
-            "line 2 fault processor-count\n",
-        ),
-        (
-            "processors 64\nprocessors 65",
-            2,
-            LineFault::ProcessorCount,
-            "line 2 fault processor-count\n",
-        ),
-        (
-            "processors 1\n\nprocessors 1",
-            3,
-            LineFault::ProcessorsAgain,
-            "line 3 fault processors-again\n",
-        ),
-    ] {
+    for (script, number, fault, output) in NO_CLUSTERS {
         stops(&rt, rt.alloc(), script, number, fault, output)?;
     }
     Ok(())
