@@ -1,0 +1,9 @@
+pub mod Each
+pub mod OneTaken
+pub mod Grows
+pub mod Standing
+pub mod Counting
+pub mod Seating
+pub mod Telling
+pub mod Given
+pub mod SameEvents
