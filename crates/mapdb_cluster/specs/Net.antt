@@ -2,11 +2,10 @@
 use Rattle.std.specs.Prelude.{ℕ, ◌++◌, ◌==◌, List, [], ◌∷◌, length, map, take, slice_get, slice_set, Option, Some, None, Result, Ok, Err, if◌then◌else◌}
 use Rattle.std.specs.List.{range_with_len}
 use Rattle.mapdb_facts.specs.State.{state_of}
-use Rattle.mapdb_facts.specs.declared.names.RecordId.{RecordId}
 use Rattle.mapdb_facts.specs.declared.operations.Op.{Op}
 use Rattle.mapdb_replica.specs.Commands.{command_outcome}
 use Rattle.mapdb_replica.specs.Giving.{given}
-use Rattle.mapdb_replica.specs.Replica.{Log, empty, names_of, news, with_issued}
+use Rattle.mapdb_replica.specs.Replica.{Log, empty, first_number, names_of, news, with_issued}
 use Rattle.mapdb_replica.specs.Taking.{take_outcome, with_taken}
 use Rattle.mapdb_replica.specs.declared.commands.Command.{Command}
 use Rattle.mapdb_replica.specs.declared.commands.Command.TheVariants.{End, Map, Unmap}
@@ -47,11 +46,6 @@ pub record Done : Type 0 where
 -- nothing is changed
 abbrev pub refused : Net → Refusal → Done
 refused net why = record { reply = Refused why; net = net; taker = 0; took = [] }
-
--- the number of the first name, 0 where there is none
-abbrev pub first_number : List RecordId → ℕ
-first_number [] = 0
-first_number (id ∷ ids) = id.number
 
 -- the reply to a command that issued these
 abbrev pub issue_reply : Command → List Op → Reply

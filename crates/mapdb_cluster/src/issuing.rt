@@ -6,23 +6,12 @@ ghost use Rattle.mapdb_replica.specs.Commands.{command_outcome};
 ghost use Rattle.mapdb_replica.specs.Replica.{map_outcome};
 ghost use Rattle.mapdb_replica.specs.Unmap.{end_outcome, unmap_outcome};
 ghost use Rattle.mapdb_replica.specs.declared.commands.Command.TheVariants as command;
-ghost use Rattle.mapdb_cluster.specs.Net.{first_number};
 ghost use Rattle.mapdb_cluster.specs.Steps.{Commands};
 
 use crate::events::{Refusal, Reply};
-use mapdb_facts::{RecordId, Space};
+use mapdb_facts::Space;
 use mapdb_fpage::{Fpage, MapItem, Rights};
-use mapdb_replica::{Command, Replica};
-
-/// The number of the first name, 0 where there is none.
-fn first_number(names: &[RecordId]) -> u64
-    ensures { result ≡ first_number names.now }
-{
-    match names.first() {
-        Some(id) => id.number,
-        None => 0,
-    }
-}
+use mapdb_replica::{Command, Replica, first_number};
 
 /// Maps at a copy.
 fn map(

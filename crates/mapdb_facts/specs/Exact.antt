@@ -38,7 +38,7 @@ exact_bool false false h = refl
 exact_bool true false h = sym h
 exact_bool false true h = h
 
-exact_rights : (a b : Rights) → same_rights a b ≡ true → a ≡ b
+pub exact_rights : (a b : Rights) → same_rights a b ≡ true → a ≡ b
 exact_rights a b h =
     let p = and_parts (beq a.read b.read) _ h in
     let q = and_parts (beq a.write b.write) (beq a.execute b.execute) p.1 in

@@ -5,7 +5,7 @@ use crate::keys::Part;
 use crate::names::{NUMBER_LIMIT, RecordId, Space};
 use crate::operations::{Op, Record, Revocation};
 use crate::parts::{are_taken, taken_at};
-use crate::runs::{CutRun, first_run};
+use crate::runs::{CutRun, first_run, same_until};
 use mapdb_fpage::{PAGE_LIMIT, Rights};
 use mapdb_join::{BitsOr, Flat, Grow, JoinMap, MergePart};
 use std::alloc::{AllocError, Global};
@@ -45,8 +45,8 @@ impl Model for Facts {
 }
 
 impl Facts {
-    ghost use Rattle.std.specs.Prelude.{◌≡◌, ◌⊎◌, ◌+◌, ◌<◌, ◌≤◌, ◌↔◌, true, false, Ok, Err, None, Some, IfOk, IfErr, IfSome, IsOk, IsSome, IsTrue, OnOk, OnErr, Result, Bool};
-    ghost use Rattle.mapdb_facts.specs.Adding.{added, clash_of, cut_at, is_new};
+    ghost use Rattle.std.specs.Prelude.{◌≡◌, ◌⊎◌, ◌+◌, ◌<◌, ◌≤◌, ◌↔◌, ℕ, true, false, Ok, Err, None, Some, IfOk, IfErr, IfSome, IsOk, IsSome, IsTrue, OnOk, OnErr, Result, Bool};
+    ghost use Rattle.mapdb_facts.specs.Adding.{added, clash_of, cut_at, is_new, same_rights};
     ghost use Rattle.mapdb_facts.specs.Facts.{records_of_facts, state_of_facts};
     ghost use Rattle.mapdb_facts.specs.Looking.{Holds, IsFirstAbove, IsFound, IsGreatest, IsNextOfNumber};
     ghost use Rattle.mapdb_facts.specs.Merging.{IsNamed};
@@ -162,6 +162,23 @@ impl Facts {
         match self.cuts.get(&id) {
             Some(parts) => first_run(parts.entries(), page),
             None => None,
+        }
+    }
+
+    /// The end of the pages, from one on, over which the very same rights are revoked from the record, or none: as many pages
+    /// as there are one behind the other.
+    pub fn revoked_until(&self, id: RecordId, page: u32) -> u32
+        requires { page < PAGE_LIMIT }
+        ensures above { page < result }
+        ensures limit { result ≤ PAGE_LIMIT }
+        ensures same { (q : ℕ) → page ≤ q → q < result
+            → cut_at (state_of_facts self.now) id q ≡ cut_at (state_of_facts self.now) id page }
+        ensures other { result < PAGE_LIMIT
+            → same_rights (cut_at (state_of_facts self.now) id result) (cut_at (state_of_facts self.now) id page) ≡ false }
+    {
+        match self.cuts.get(&id) {
+            Some(parts) => same_until(parts.entries(), page),
+            None => PAGE_LIMIT,
         }
     }
 

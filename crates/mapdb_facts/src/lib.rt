@@ -19,7 +19,7 @@ mod runs;
 pub use checking::{OpFault, check};
 pub use holding::{AddFault, Facts};
 pub use mapdb_join::MergeFault;
-pub use names::{NUMBER_LIMIT, PROCESSOR_LIMIT, RecordId, Space};
+pub use names::{NUMBER_LIMIT, PROCESSOR_LIMIT, RecordId, SPACE_LIMIT, Space};
 pub use operations::{Op, Record, Revocation};
 pub use runs::CutRun;
 

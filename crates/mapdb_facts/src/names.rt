@@ -9,6 +9,9 @@ pub const NUMBER_LIMIT: u64 = 1 << 40;
 /// The numbers of processors lie below this.
 pub const PROCESSOR_LIMIT: u8 = 64;
 
+/// The numbers of spaces lie below this.
+pub const SPACE_LIMIT: u32 = 1 << 16;
+
 /// An address space.
 #[derive(Clone, Copy, Debug, Default, PartialEq, Eq, PartialOrd, Ord, Hash)]
 pub struct Space {

@@ -1,7 +1,6 @@
 //! Runs of pages over which the same rights are revoked from a record.
 
 ghost use Rattle.std.specs.Prelude.{◌≡◌, ◌≤◌, ◌<◌, ◌+◌, ◌-◌, [], ℕ, false, IfNone, IfSome};
-ghost use Rattle.mapdb_fpage.specs.Place.{holds};
 ghost use Rattle.mapdb_fpage.specs.RightSets.{is_empty};
 ghost use Rattle.mapdb_fpage.specs.declared.right_sets.Right.{Right};
 ghost use Rattle.mapdb_facts.specs.Adding.{same_rights};
@@ -10,7 +9,7 @@ ghost use Rattle.mapdb_facts.specs.Runs.{IsFirstRun, runs_from, taken_by};
 
 use crate::keys::Part;
 use crate::parts::taken_at;
-use mapdb_fpage::{Fpage, PAGE_LIMIT, Rights};
+use mapdb_fpage::{PAGE_LIMIT, Rights};
 use mapdb_join::BitsOr;
 use std::collections::BTreeMap;
 
@@ -25,22 +24,6 @@ pub struct CutRun {
     pub rights: Rights,
 }
 
-/// The end of the pages from one on which all lie in the place, or all do not.
-fn change_of(place: &Fpage, page: u32) -> u32
-    requires { page < PAGE_LIMIT }
-    ensures above { page < result }
-    ensures limit { result ≤ PAGE_LIMIT }
-    ensures same { (q : ℕ) → page ≤ q → q < result → holds place.now q ≡ holds place.now page }
-{
-    if page < place.first_page() {
-        place.first_page()
-    } else if page < place.end() {
-        place.end()
-    } else {
-        PAGE_LIMIT
-    }
-}
-
 /// The end of pages from one on that lie in the same parts.
 fn next_change(parts: &BTreeMap<Part, BitsOr>, page: u32) -> u32
     requires { page < PAGE_LIMIT }
@@ -51,7 +34,7 @@ fn next_change(parts: &BTreeMap<Part, BitsOr>, page: u32) -> u32
 {
     let mut next = PAGE_LIMIT;
     for (part, _) in parts {
-        let change = change_of(&part.place, page);
+        let change = part.place.change_after(page);
         if change < next {
             next = change;
         }
@@ -94,6 +77,18 @@ fn run_end(parts: &BTreeMap<Part, BitsOr>, start: u32, rights: Rights) -> u32
         end = next_change(parts, end);
     }
     end
+}
+
+/// The end of the pages from one on of which the same rights are taken, or none.
+pub fn same_until(parts: &BTreeMap<Part, BitsOr>, page: u32) -> u32
+    requires { page < PAGE_LIMIT }
+    ensures above { page < result }
+    ensures limit { result ≤ PAGE_LIMIT }
+    ensures same { (q : ℕ) → page ≤ q → q < result → taken_by parts.now.entries q ≡ taken_by parts.now.entries page }
+    ensures other { result < PAGE_LIMIT
+        → same_rights (taken_by parts.now.entries result) (taken_by parts.now.entries page) ≡ false }
+{
+    run_end(parts, page, taken_at(parts, page))
 }
 
 /// The first run of pages from one on of which the same rights are taken, and not none.

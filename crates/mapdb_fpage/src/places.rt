@@ -58,7 +58,7 @@ fn pages_of_order(order: u8) -> u32
 }
 
 impl Fpage {
-    ghost use Rattle.std.specs.Prelude.{◌≡◌, ◌≤◌, ◌<◌, ◌&&◌, ◌+◌, ◌%◌, ℕ, Some, None, IfSome, if◌then◌else◌};
+    ghost use Rattle.std.specs.Prelude.{◌≡◌, ◌≤◌, ◌<◌, ◌&&◌, ◌+◌, ◌%◌, ℕ, not, Some, None, IfSome, if◌then◌else◌};
     ghost use Rattle.mapdb_fpage.specs.Addresses.{place_at};
     ghost use Rattle.mapdb_fpage.specs.Place.{IsPlace, IsWithin, from_page, held_by, holds, meet, moved, page_total, part_of, whole};
 
@@ -133,6 +133,23 @@ impl Fpage {
         ensures { result ≡ holds self.now page }
     {
         self.first_page <= page && page - self.first_page < self.page_count()
+    }
+
+    /// The end of the pages, from one on, that all lie in the place, or all do not.
+    pub fn change_after(&self, page: u32) -> u32
+        requires { page < PAGE_LIMIT }
+        ensures above { page < result }
+        ensures limit { result ≤ PAGE_LIMIT }
+        ensures same { (q : ℕ) → page ≤ q → q < result → holds self.now q ≡ holds self.now page }
+        ensures other { result < PAGE_LIMIT → holds self.now result ≡ not (holds self.now page) }
+    {
+        if page < self.first_page {
+            self.first_page
+        } else if page < self.end() {
+            self.end()
+        } else {
+            PAGE_LIMIT
+        }
     }
 
     /// This place, if the larger one holds it.

@@ -6,22 +6,12 @@ ghost use Rattle.mapdb_replica.specs.Replica.{map_outcome};
 ghost use Rattle.mapdb_replica.specs.Taking.{take_outcome};
 ghost use Rattle.mapdb_replica.specs.Unmap.{end_outcome, unmap_outcome};
 ghost use Rattle.mapdb_replica.specs.declared.commands.Command.TheVariants as command;
-ghost use Rattle.mapdb_node.specs.Steps.{Commands, Steps, TakesOne, first_number, page_served};
+ghost use Rattle.mapdb_node.specs.Steps.{Commands, Steps, TakesOne, page_served};
 
 use crate::events::{NodeEvent, NodeReply};
-use mapdb_facts::{Op, RecordId, Space};
+use mapdb_facts::{Op, Space};
 use mapdb_fpage::{Fpage, MapItem, PAGE_LIMIT, Rights};
-use mapdb_replica::{Command, Replica};
-
-/// The number of the first name, 0 where there is none.
-fn first_number(names: &[RecordId]) -> u64
-    ensures { result ≡ first_number names.now }
-{
-    match names.first() {
-        Some(id) => id.number,
-        None => 0,
-    }
-}
+use mapdb_replica::{Command, Replica, first_number};
 
 /// Maps at a copy.
 fn map(

@@ -17,7 +17,9 @@ use std::alloc::{AllocError, Global};
 /// What holds a place of a space: a record, or the root.
 #[derive(Clone, Copy, Debug, PartialEq, Eq)]
 pub struct Holder {
+    /// The name of the record, or of the root.
     pub id: RecordId,
+    /// The place that it holds: that of the record, or the complete space.
     pub place: Fpage,
 }
 

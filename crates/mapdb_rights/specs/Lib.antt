@@ -3,3 +3,4 @@ pub mod Frame
 pub mod PageRights
 pub mod Served
 pub mod Backing
+pub mod Steady

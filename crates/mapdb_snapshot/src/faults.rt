@@ -11,8 +11,8 @@ pub const SNAPSHOT_VERSION: u64 = 1;
 pub enum SnapshotFault {
     /// It is no JSON, or is nested deeper than 127.
     NotJson,
-    /// It has no version; or, where it has the right one, it has other keys, rows of another shape, or a number that is no whole
-    /// number in its range.
+    /// It is no object, or has no version; or, where it has the right one, it has other keys, rows of another shape, or a number
+    /// that is no whole number in its range.
     Shape,
     /// It has another version.
     Version,
