@@ -1,0 +1,9 @@
+pub mod Carrying
+pub mod Fins
+pub mod FirstFaults
+pub mod OwnOps
+pub mod Replaying
+pub mod SameCopies
+pub mod Numbering
+pub mod Finished
+pub mod MetFaults

@@ -1,0 +1,109 @@
+-- After a replay a copy holds the atoms of what it issued and of what it took.
+use Rattle.std.proofs.Common.{◌≡◌, ℕ, true, true≢false, List, [], ◌∷◌, ◌++◌, ◌⊎◌, ⊎_elim, inl, inr, refl, sym, ap, ◌∙◌, subst, take}
+use Rattle.std.specs.Prelude.{◌↔◌, Option, Some, None, Result, Ok, Err}
+use Rattle.std.specs.List.{list_all}
+use Rattle.std.proofs.lemmas.Bool.{and_parts}
+use Rattle.mapdb_facts.specs.State.{Atom, HasAtom, state_of}
+use Rattle.mapdb_facts.specs.declared.operations.Op.{Op}
+use Rattle.mapdb_facts.proofs.Joins.{atom_append, atom_left, atom_right}
+use Rattle.mapdb_replica.specs.Commands.{command_outcome}
+use Rattle.mapdb_replica.specs.Replica.{Log, news, with_issued}
+use Rattle.mapdb_replica.specs.Taking.{take_outcome, take_refusal, taken_unless, with_taken}
+use Rattle.mapdb_replica.specs.declared.commands.Command.{Command}
+use Rattle.mapdb_replica.specs.declared.faults.IssueFault.{IssueFault}
+use Rattle.mapdb_replica.specs.declared.faults.TakeFault.{TakeFault}
+use Rattle.mapdb_replica.proofs.NewsAtoms.{news_give}
+use Rattle.mapdb_node.specs.Journals.{Replays}
+use Rattle.mapdb_node.specs.Steps.{Commands, Steps, TakesOne}
+use Rattle.mapdb_node.specs.declared.events.Entry.{Entry}
+use Rattle.mapdb_node.specs.declared.events.NodeEvent.{NodeEvent}
+use Rattle.mapdb_node.specs.declared.events.NodeEvent.TheVariants.{Issue, OwnAt, Served, Take}
+use Rattle.mapdb_node.specs.declared.events.NodeReply.{NodeReply}
+use Rattle.mapdb_node.specs.declared.events.NodeReply.TheVariants as reply
+use Rattle.mapdb_exchange.specs.Reports.{with_take, was_taken, is_heard}
+
+-- the operations of all Takes, the last one first, and then those given
+abbrev pub taken_of : List Entry → List Op → List Op
+taken_of [] xs = xs
+taken_of (e ∷ es) xs = taken_of es (with_take true e.event xs)
+
+-- the copy holds the atoms of what it issued and of these
+abbrev pub Gathers : Log → List Op → Type 0
+Gathers log taken = (atom : Atom) → HasAtom log.ops atom ↔ (HasAtom log.own atom ⊎ HasAtom taken atom)
+
+issue_gathers : (log : Log) (xs taken : List Op) → Gathers log taken → Gathers (with_issued log xs) taken
+issue_gathers log xs taken has atom = (λ h. forth (atom_append log.ops xs atom h), back)
+  where
+    forth : HasAtom log.ops atom ⊎ HasAtom xs atom → HasAtom (log.own ++ xs) atom ⊎ HasAtom taken atom
+    forth (inl h) = ⊎_elim (λ own. inl (atom_left log.own xs atom own)) (λ theirs. inr theirs) ((has atom).0 h)
+    forth (inr h) = inl (atom_right log.own xs atom h)
+
+    by_own : HasAtom log.own atom ⊎ HasAtom xs atom → HasAtom (log.ops ++ xs) atom
+    by_own (inl own) = atom_left log.ops xs atom ((has atom).1 (inl own))
+    by_own (inr h) = atom_right log.ops xs atom h
+
+    back : HasAtom (log.own ++ xs) atom ⊎ HasAtom taken atom → HasAtom (log.ops ++ xs) atom
+    back (inl h) = by_own (atom_append log.own xs atom h)
+    back (inr theirs) = atom_left log.ops xs atom ((has atom).1 (inr theirs))
+
+take_gathers : (log : Log) (op : Op) (taken : List Op) → Gathers log taken → Gathers (with_taken log (news (state_of log.ops) (op ∷ []))) (op ∷ taken)
+take_gathers log op taken has atom = (λ h. forth (atom_append log.ops (op ∷ []) atom (same.0 h)), λ h. same.1 (back h))
+  where
+    same : HasAtom (log.ops ++ news (state_of log.ops) (op ∷ [])) atom ↔ HasAtom (log.ops ++ op ∷ []) atom
+    same = news_give log.ops (op ∷ []) atom
+
+    forth : HasAtom log.ops atom ⊎ HasAtom (op ∷ []) atom → HasAtom log.own atom ⊎ HasAtom (op ∷ taken) atom
+    forth (inl h) = ⊎_elim (λ own. inl own) (λ theirs. inr (inr theirs)) ((has atom).0 h)
+    forth (inr (inl gives)) = inr (inl gives)
+    forth (inr (inr none)) = absurd none
+
+    back : HasAtom log.own atom ⊎ HasAtom (op ∷ taken) atom → HasAtom (log.ops ++ op ∷ []) atom
+    back (inl own) = atom_left log.ops (op ∷ []) atom ((has atom).1 (inl own))
+    back (inr (inl gives)) = atom_right log.ops (op ∷ []) atom (inl gives)
+    back (inr (inr theirs)) = atom_left log.ops (op ∷ []) atom ((has atom).1 (inr theirs))
+
+taken_news : (refusal : Option TakeFault) (xs ops : List Op) → taken_unless refusal xs ≡ Ok ops → ops ≡ xs
+taken_news None xs ops e = cc
+taken_news (Some fault) xs ops e = cc
+
+issue_step : (command : Command) (outcome : Result (List Op) IssueFault) (r : NodeReply) (old new : Log) (taken : List Op)
+    → Commands command outcome r old new → Gathers old taken → Gathers new taken
+issue_step command (Err fault) r old new taken h has = subst (λ (x : Log). Gathers x taken) (sym h.1) has
+issue_step command (Ok ops) (reply.IssueRefused why) old new taken h has = subst (λ (x : Log). Gathers x taken) (sym h.3) (issue_gathers old (take h.0 ops) taken has)
+issue_step command (Ok ops) (reply.Issued first count) old new taken h has = subst (λ (x : Log). Gathers x taken) (sym h.1) (issue_gathers old ops taken has)
+issue_step command (Ok ops) (reply.Revoked count) old new taken h has = subst (λ (x : Log). Gathers x taken) (sym h.1) (issue_gathers old ops taken has)
+issue_step command (Ok ops) reply.Ended old new taken h has = subst (λ (x : Log). Gathers x taken) (sym h.1) (issue_gathers old ops taken has)
+issue_step command (Ok ops) (reply.Taken new_one) old new taken h has = subst (λ (x : Log). Gathers x taken) (sym h.1) (issue_gathers old ops taken has)
+issue_step command (Ok ops) (reply.Served found) old new taken h has = subst (λ (x : Log). Gathers x taken) (sym h.1) (issue_gathers old ops taken has)
+issue_step command (Ok ops) (reply.Own found) old new taken h has = subst (λ (x : Log). Gathers x taken) (sym h.1) (issue_gathers old ops taken has)
+issue_step command (Ok ops) (reply.TakeRefused why) old new taken h has = subst (λ (x : Log). Gathers x taken) (sym h.1) (issue_gathers old ops taken has)
+
+take_step : (op : Op) (outcome : Result (List Op) TakeFault) (r : NodeReply) (old new : Log) (taken : List Op)
+    → take_outcome old.ops (op ∷ []) ≡ outcome → was_taken r ≡ true → TakesOne op outcome r old new → Gathers old taken → Gathers new (op ∷ taken)
+take_step op (Err refusal) r old new taken is held h has = absurd (true≢false (sym held ∙ ap was_taken h.1))
+take_step op (Ok ops) (reply.Taken new_one) old new taken is held h has =
+    let Held : Log → Type 0 = λ x. Gathers x (op ∷ taken) in
+    let all : ops ≡ news (state_of old.ops) (op ∷ []) = taken_news (take_refusal old.ops (op ∷ [])) (news (state_of old.ops) (op ∷ [])) ops is in
+    subst Held (sym (h.1 ∙ ap (with_taken old) all)) (take_gathers old op taken has)
+take_step op (Ok ops) (reply.IssueRefused why) old new taken is held h has = absurd (true≢false (sym held))
+take_step op (Ok ops) (reply.Issued first count) old new taken is held h has = absurd (true≢false (sym held))
+take_step op (Ok ops) (reply.Revoked count) old new taken is held h has = absurd (true≢false (sym held))
+take_step op (Ok ops) reply.Ended old new taken is held h has = absurd (true≢false (sym held))
+take_step op (Ok ops) (reply.Served found) old new taken is held h has = absurd (true≢false (sym held))
+take_step op (Ok ops) (reply.Own found) old new taken is held h has = absurd (true≢false (sym held))
+take_step op (Ok ops) (reply.TakeRefused why) old new taken is held h has = absurd (true≢false (sym held))
+
+step_gathers : (old : Log) (e : NodeEvent) (r : NodeReply) (new : Log) (taken : List Op) (seats : List ℕ) (seat : ℕ) → Steps old e r new → is_heard seats seat e r ≡ true → Gathers old taken → Gathers new (with_take true e taken)
+unfolding Steps
+step_gathers old (Issue command) r new taken seats seat h heard has = issue_step command (command_outcome old command) r old new taken h has
+step_gathers old (Take op) r new taken seats seat h heard has = take_step op (take_outcome old.ops (op ∷ [])) r old new taken refl (and_parts (was_taken r) _ heard).0 h has
+step_gathers old (Served space page) r new taken seats seat h heard has = subst (λ (x : Log). Gathers x taken) (sym h.1) has
+step_gathers old (OwnAt place) r new taken seats seat h heard has = subst (λ (x : Log). Gathers x taken) (sym h.1) has
+
+-- from a copy that holds what it issued and took, entries of which each Take was held lead to one
+pub replay_gathers : (seats : List ℕ) (old : Log) (es : List Entry) (new : Log) (taken : List Op) → Replays old es new
+    → list_all (λ (e : Entry). is_heard seats e.seat e.event e.reply) es ≡ true → Gathers old taken → Gathers new (taken_of es taken)
+replay_gathers seats old [] new taken h heard has = subst (λ (x : Log). Gathers x taken) (sym h) has
+replay_gathers seats old (e ∷ es) new taken h heard has =
+    let p = and_parts (is_heard seats e.seat e.event e.reply) (list_all (λ (e : Entry). is_heard seats e.seat e.event e.reply) es) heard in
+    replay_gathers seats h.0 es new (with_take true e.event taken) h.2 p.1 (step_gathers old e.event e.reply h.0 taken seats e.seat h.1 p.0 has)

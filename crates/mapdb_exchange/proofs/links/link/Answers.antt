@@ -1,0 +1,11 @@
+use Rattle.std.proofs.Common.{ap}
+use Rattle.mapdb_exchange.specs.declared.rules.PassView.{PassView}
+use Rattle.mapdb_exchange.proofs.Carrying.{begins, forks}
+use Rattle.mapdb_exchange.proofs.links.link.Goals as goal
+
+pub bounded_with-requires-clause-rule : goal.bounded_with-requires-clause-rule
+bounded_with-requires-clause-rule g c = begins
+
+pub another-other-requires-clause-rule : goal.another-other-requires-clause-rule
+another-other-requires-clause-rule g c =
+    forks _ _ (ap (λ (v : PassView). v.sends) c.in-Ok.ensures.3) (ap (λ (v : PassView). v.receives) c.in-Ok.ensures.3)

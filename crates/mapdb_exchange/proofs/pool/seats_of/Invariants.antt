@@ -1,0 +1,7 @@
+use Rattle.std.proofs.Common.{◌≡◌, ◌++◌}
+use Rattle.mapdb_exchange.specs.Faults.{listed}
+use Rattle.mapdb_exchange.specs.Workers.{faults_of}
+use Rattle.mapdb_exchange.proofs.pool.seats_of.Given as goal
+
+abbrev pub invariant-loop-seat : goal.invariant-loop-seat
+invariant-loop-seat l = l.faults.items ≡ listed l.fn.unstarted ++ faults_of l.yielded

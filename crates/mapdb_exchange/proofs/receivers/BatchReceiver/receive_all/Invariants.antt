@@ -1,0 +1,9 @@
+use Rattle.mapdb_exchange.specs.Links.{AreBatches}
+use Rattle.mapdb_exchange.proofs.receivers.BatchReceiver.receive_all.Given as goal
+
+abbrev pub invariant-loop : goal.invariant-loop
+invariant-loop g l = record {
+  can : (goal.iterator-loop g).can_next l.iterator';
+  finite : (goal.iterator-loop g).is_finite l.iterator';
+  batches : AreBatches l.from l.to 0 l.next l.end.received;
+}

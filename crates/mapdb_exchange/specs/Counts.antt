@@ -1,0 +1,8 @@
+-- How large an exchange may be.
+use Rattle.std.specs.Prelude.{ℕ, ◌≤◌}
+use Rattle.mapdb_exchange.specs.declared.exchange.TheConstants.{MOST_PROCESSORS}
+use Rattle.mapdb_exchange.specs.declared.links.TheConstants.{MOST_CAPACITY}
+
+-- so many scripts, over links of this capacity
+abbrev pub IsCount : ℕ → ℕ → Type 0
+IsCount count capacity = (1 ≤ count) × (count ≤ MOST_PROCESSORS) × (1 ≤ capacity) × (capacity ≤ MOST_CAPACITY)

@@ -1,0 +1,204 @@
+//! Processors that run their scripts side by side, and tell each other what they issue.
+
+ghost use Rattle.std.specs.Prelude.{◌≡◌, ◌<◌, ◌≤◌, ◌↔◌, length, map, IsTrue, IfErr, IfOk, OnOk};
+ghost use Rattle.mapdb_exchange.specs.Counts.{IsCount};
+ghost use Rattle.mapdb_exchange.specs.Reports.{AreParts, HoldSame};
+
+use crate::faults::{NodeFault, RunFault, WorkFault};
+use crate::issuing::Issuing;
+use crate::links::MOST_CAPACITY;
+use crate::networks::{Inbox, inboxes_of, outboxes_of};
+use crate::pool::run_all;
+use crate::reports::{Part, Report, agrees, hold_same};
+use crate::workers::{Job, Post, Receiving};
+use mapdb_node::{Gate, Node, Seat};
+use mapdb_replica::Command;
+use std::alloc::Global;
+use std::sync::Wait;
+use std::thread::Threads;
+use std::vec::IntoIter;
+
+/// An exchange has at most this many processors.
+pub const MOST_PROCESSORS: usize = 4;
+
+/// Runs each script at a processor of its own, all at the same time, over links that hold `capacity` messages each. Each
+/// call passes the gate. Once all have ended, each copy holds what all processors issued. It waits.
+///
+/// A command that is refused for another cause than memory is a reply in the history, and no fault of the run.
+pub fn run<R: Threads + Wait + Sync, G: Gate + Sync>(
+    rt: &R,
+    alloc: Global,
+    scripts: Vec<Vec<Command>>,
+    capacity: usize,
+    gate: &G,
+) -> Result<Report, RunFault>
+    ensures parts { IfOk result (λ report. AreParts (map (λ v. v.items) scripts.items) report.parts.items) }
+    ensures same { IfOk result (λ report. HoldSame report.parts.items) }
+    ensures count { OnOk result (IsCount (length scripts.items) capacity) }
+    ensures bad { IfErr result (λ fault. fault ≡ RunFault.BadCount ↔ (IsCount (length scripts.items) capacity → ⊥)) }
+{
+    if !is_count(scripts.len(), capacity) {
+        return Err(RunFault::BadCount);
+    }
+    match run_scripts(rt, alloc, scripts, capacity, gate) {
+        Ok(report) => Ok(report),
+        Err(fault) => Err(RunFault::from(fault)),
+    }
+}
+
+/// Whether an exchange may have so many processors, and links of this capacity.
+fn is_count(count: usize, capacity: usize) -> bool
+    ensures { IsTrue result ↔ IsCount count capacity }
+{
+    1 <= count && count <= MOST_PROCESSORS && 1 <= capacity && capacity <= MOST_CAPACITY
+}
+
+/// Runs so many scripts as an exchange may have.
+fn run_scripts<R: Threads + Wait + Sync, G: Gate + Sync>(
+    rt: &R,
+    alloc: Global,
+    scripts: Vec<Vec<Command>>,
+    capacity: usize,
+    gate: &G,
+) -> Result<Report, WorkFault>
+    requires { IsCount (length scripts.items) capacity }
+    ensures parts { IfOk result (λ report. AreParts (map (λ v. v.items) scripts.items) report.parts.items) }
+    ensures same { IfOk result (λ report. HoldSame report.parts.items) }
+{
+    let nodes = nodes_of(alloc, scripts.len() as u8)?;
+    let posts = posts_of(rt, alloc, nodes.as_slice(), scripts.as_slice(), capacity)?;
+    let seats = run_all(rt, alloc, gate, posts)?;
+    let parts = parts_of(alloc, nodes, scripts.as_slice(), seats)?;
+    if !agrees(scripts.as_slice(), parts.as_slice()) {
+        return Err(WorkFault::Link);
+    }
+    hold_same(scripts.as_slice(), parts.as_slice());
+    Ok(Report { parts })
+}
+
+/// The nodes of so many processors.
+fn nodes_of(alloc: Global, count: u8) -> Result<Vec<Node>, WorkFault>
+    requires { count ≤ MOST_PROCESSORS }
+    ensures { IfOk result (λ nodes. length nodes.items ≡ count) }
+{
+    let mut nodes = Vec::new(alloc);
+    for processor in 0..count {
+        nodes.push(Node::new(alloc, processor))?;
+    }
+    Ok(nodes)
+}
+
+/// The posts of all processors, in order: the issuing worker's, and then the receiving workers'.
+fn posts_of<'a, R: Wait>(
+    rt: &R,
+    alloc: Global,
+    nodes: &'a [Node],
+    scripts: &'a [Vec<Command>],
+    capacity: usize,
+) -> Result<Vec<Post<'a>>, WorkFault>
+    requires count { length nodes.now ≤ MOST_PROCESSORS }
+    requires some { 0 < capacity }
+    requires most { capacity ≤ MOST_CAPACITY }
+{
+    let count = nodes.len() as u8;
+    let mut inboxes = inboxes_of(alloc, count)?;
+    let outboxes = outboxes_of(rt, alloc, count, inboxes.as_mut_slice(), capacity)?;
+    let mut posts = Vec::new(alloc);
+    for ((node, script), (inbox, links)) in nodes
+        .iter()
+        .zip(scripts)
+        .zip(inboxes.into_iter().zip(outboxes))
+    {
+        let seat = seat_at(rt, node)?;
+        let job = Job::Issue(Issuing {
+            script: script.as_slice(),
+            seat,
+            links,
+        });
+        posts.push(Post { node, job })?;
+        add_receiving(rt, &mut posts, node, inbox)?;
+    }
+    Ok(posts)
+}
+
+/// Adds the posts of a processor's receiving workers.
+fn add_receiving<'a, R: Wait>(
+    rt: &R,
+    posts: &mut Vec<Post<'a>>,
+    node: &'a Node,
+    inbox: Inbox,
+) -> Result<(), WorkFault> {
+    let Inbox {
+        processor: _,
+        links,
+    } = inbox;
+    for link in links {
+        let seat = seat_at(rt, node)?;
+        let job = Job::Receive(Receiving { seat, link });
+        posts.push(Post { node, job })?;
+    }
+    Ok(())
+}
+
+/// A seat at a node.
+fn seat_at<R: Wait>(rt: &R, node: &Node) -> Result<Seat, WorkFault> {
+    match node.seat(rt) {
+        Ok(seat) => Ok(seat),
+        Err(_) => Err(WorkFault::Node(NodeFault::Seats)),
+    }
+}
+
+/// The parts of all processors. The seats come in the order of the posts.
+fn parts_of(
+    alloc: Global,
+    nodes: Vec<Node>,
+    scripts: &[Vec<Command>],
+    seats: Vec<Seat>,
+) -> Result<Vec<Part>, WorkFault> {
+    let count = nodes.len();
+    let mut seats = seats.into_iter();
+    let mut parts = Vec::new(alloc);
+    for (node, script) in nodes.into_iter().zip(scripts) {
+        let own = next_seats(alloc, &mut seats, count)?;
+        parts.push(part_of(alloc, node, script.len(), own)?)?;
+    }
+    Ok(parts)
+}
+
+/// The next so many seats.
+fn next_seats(
+    alloc: Global,
+    seats: &mut IntoIter<Seat, Global>,
+    count: usize,
+) -> Result<Vec<Seat>, WorkFault> {
+    let mut own = Vec::with_capacity(alloc, count)?;
+    for _ in 0..count {
+        let Some(seat) = seats.next() else {
+            return Err(WorkFault::Node(NodeFault::Seats));
+        };
+        own.push(seat)?;
+    }
+    Ok(own)
+}
+
+/// Closes a node with its seats.
+fn part_of(
+    alloc: Global,
+    node: Node,
+    commands: usize,
+    seats: Vec<Seat>,
+) -> Result<Part, WorkFault> {
+    let mut numbers = Vec::with_capacity(alloc, seats.len())?;
+    for seat in &seats {
+        numbers.push(seat.number())?;
+    }
+    match node.close(seats) {
+        Ok(history) => Ok(Part {
+            processor: history.copy().processor(),
+            commands,
+            seats: numbers,
+            history,
+        }),
+        Err(_) => Err(WorkFault::Node(NodeFault::Seats)),
+    }
+}

@@ -1,0 +1,119 @@
+//! The issuing worker of a processor: it runs the script, and puts what is issued on the links.
+
+ghost use Rattle.std.specs.Prelude.{◌≡◌, map, IfOk};
+ghost use Rattle.mapdb_exchange.specs.Finishing.{AreFinished, sent_on};
+
+use crate::faults::{NodeFault, WorkFault};
+use crate::links::Outgoing;
+use crate::messages::Ops;
+use crate::senders::BatchSender;
+use mapdb_facts::Op;
+use mapdb_node::{Gate, Node, NodeEvent, NodeReply, Seat};
+use mapdb_replica::{Command, IssueFault};
+use std::alloc::Global;
+use std::sync::Wait;
+
+/// What an issuing worker has: its script, its seat, and its ends of the links to all other processors.
+#[derive(Drop)]
+pub(crate) struct Issuing<'a> {
+    pub(crate) script: &'a [Command],
+    pub(crate) seat: Seat,
+    pub(crate) links: Vec<BatchSender>,
+}
+
+/// Runs the commands in order through the gate. After each that issued something it puts one batch on each link, and at
+/// the end Fin.
+pub(crate) fn issue_all<R: Wait, G: Gate>(
+    rt: &R,
+    alloc: Global,
+    node: &Node,
+    script: &[Command],
+    gate: &G,
+    seat: &mut Seat,
+    links: Vec<BatchSender>,
+) -> Result<Vec<Outgoing>, WorkFault>
+    ensures { IfOk result (λ ends. AreFinished (map sent_on links.items) ends.items) }
+{
+    let mut links = links;
+    let mut first = 0u32;
+    for command in script {
+        let reply = node.call_at(rt, seat, NodeEvent::Issue(*command), gate)?;
+        let count = issued_count(&reply)?;
+        if count > 0 {
+            let ops = own_ops(rt, alloc, node, seat, first, count)?;
+            send_all(rt, alloc, links.as_mut_slice(), ops.as_slice())?;
+            first = first
+                .checked_add(count)
+                .ok_or(WorkFault::Node(NodeFault::Own))?;
+        }
+    }
+    finish_all(rt, alloc, links)
+}
+
+/// How many operations a command issued, by its reply.
+fn issued_count(reply: &NodeReply) -> Result<u32, WorkFault> {
+    match *reply {
+        NodeReply::Issued { first: _, count } => Ok(count),
+        NodeReply::Revoked(count) => Ok(count),
+        NodeReply::Ended => Ok(1),
+        NodeReply::IssueRefused(IssueFault::Memory { .. }) => Err(WorkFault::Memory),
+        NodeReply::IssueRefused(_) => Ok(0),
+        // No other reply follows a command, which no contract of a lock can say.
+        _ => Err(WorkFault::Link),
+    }
+}
+
+/// Reads so many own operations of a copy, from a place on.
+fn own_ops<R: Wait>(
+    rt: &R,
+    alloc: Global,
+    node: &Node,
+    seat: &mut Seat,
+    first: u32,
+    count: u32,
+) -> Result<Vec<Op>, WorkFault> {
+    let mut ops = Vec::new(alloc);
+    for step in 0..count {
+        let place = first
+            .checked_add(step)
+            .ok_or(WorkFault::Node(NodeFault::Own))?;
+        let NodeReply::Own(Some(op)) = node.call(rt, seat, NodeEvent::OwnAt(place))? else {
+            return Err(WorkFault::Node(NodeFault::Own));
+        };
+        ops.push(op)?;
+    }
+    Ok(ops)
+}
+
+/// Puts a batch with these operations on each link.
+#[tactic(auto, using(crate::proofs::Finished::same_sent, crate::proofs::Finished::same_links))]
+fn send_all<R: Wait>(
+    rt: &R,
+    alloc: Global,
+    links: &mut [BatchSender],
+    ops: &[Op],
+) -> Result<(), WorkFault>
+    ensures { map sent_on links.new ≡ map sent_on links.old }
+{
+    for at in 0..links.len() {
+        let copied = Vec::from_slice(alloc, ops)?;
+        links[at].send(rt, Ops::from_vec(copied))?;
+    }
+    Ok(())
+}
+
+/// Puts Fin on each link.
+#[tactic(auto, using(crate::proofs::Finished::finished_put))]
+fn finish_all<R: Wait>(
+    rt: &R,
+    alloc: Global,
+    links: Vec<BatchSender>,
+) -> Result<Vec<Outgoing>, WorkFault>
+    ensures { IfOk result (λ ends. AreFinished (map sent_on links.items) ends.items) }
+{
+    let mut ends = Vec::with_capacity(alloc, links.len())?;
+    for link in links {
+        ends.push(link.finish(rt)?)?;
+    }
+    Ok(ends)
+}

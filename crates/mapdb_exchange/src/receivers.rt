@@ -1,0 +1,83 @@
+//! Ends of links that receive the batches of a processor, which are taken into the copy of another.
+
+ghost use Rattle.std.specs.Prelude.{◌≡◌, ◌&&◌, ◌==◌, [], IfOk};
+ghost use Rattle.mapdb_exchange.specs.Links.{AreBatches, AreNumbered};
+
+use crate::faults::{NodeFault, WorkFault};
+use crate::links::Incoming;
+use crate::messages::{Batch, Message};
+use mapdb_facts::Op;
+use mapdb_node::{Node, NodeEvent, NodeReply, Seat};
+use mapdb_replica::TakeFault;
+use std::sync::Wait;
+
+/// An end of a new link that is to receive the batches of one processor for another.
+#[derive(Drop)]
+pub(crate) struct BatchReceiver {
+    /// The processor that issues.
+    from: u8,
+    /// The processor that takes what is issued.
+    to: u8,
+    end: Incoming,
+    ghost new: { end.received ≡ [] },
+}
+
+impl BatchReceiver {
+    /// Receives batches from a new link.
+    pub(crate) fn new(from: u8, to: u8, end: Incoming) -> BatchReceiver
+        requires { end.received ≡ [] }
+        ensures { (result.from ≡ from) × (result.to ≡ to) × (result.end ≡ end) }
+    {
+        BatchReceiver { from, to, end }
+    }
+
+    /// Receives until Fin, and takes each operation of each batch into the node. What was received then is batches of this
+    /// link, numbered from 0 on, and Fin.
+    #[tactic(auto, using(crate::proofs::Numbering::batches_put, crate::proofs::Numbering::fin_put))]
+    pub(crate) fn receive_all<R: Wait>(
+        self,
+        rt: &R,
+        node: &Node,
+        seat: &mut Seat,
+    ) -> Result<Incoming, WorkFault>
+        ensures { IfOk result (λ end. AreNumbered self.from self.to 0 end.received) }
+    {
+        let BatchReceiver { from, to, mut end } = self;
+        let mut next = 0u32;
+        for _ in rt.forever() {
+            let Ok(message) = end.next(rt) else {
+                return Err(WorkFault::Link);
+            };
+            let Message::Batch(batch) = message else {
+                return Ok(end);
+            };
+            if !is_expected(&batch, from, to, next) {
+                return Err(WorkFault::Link);
+            }
+            take_all(rt, node, seat, batch.ops.as_slice())?;
+            next = next.checked_add(1).ok_or(WorkFault::Link)?;
+        }
+        unreachable!()
+    }
+}
+
+/// Whether the batch is of the link between these processors, and of this index.
+fn is_expected(batch: &Batch, from: u8, to: u8, index: u32) -> bool
+    ensures { result ≡ ((batch.now.from == from) && ((batch.now.to == to) && (batch.now.index == index))) }
+{
+    batch.from == from && batch.to == to && batch.index == index
+}
+
+/// Takes operations into a node, one by one.
+fn take_all<R: Wait>(rt: &R, node: &Node, seat: &mut Seat, ops: &[Op]) -> Result<(), WorkFault> {
+    for op in ops {
+        match node.call(rt, seat, NodeEvent::Take(*op))? {
+            NodeReply::Taken(_) => {}
+            NodeReply::TakeRefused(TakeFault::Memory { .. }) => return Err(WorkFault::Memory),
+            NodeReply::TakeRefused(why) => return Err(WorkFault::Node(NodeFault::Refused(why))),
+            // No other reply follows a Take, which no contract of a lock can say.
+            _ => return Err(WorkFault::Link),
+        }
+    }
+    Ok(())
+}

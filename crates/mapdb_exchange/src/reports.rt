@@ -1,0 +1,224 @@
+//! What an exchange reports, and the comparison of the histories of all processors.
+
+ghost use Rattle.std.specs.Prelude.{◌≡◌, ◌<◌, ◌≤◌, ◌≢◌, ◌∷◌, ◌+◌, ◌↔◌, ℕ, true, not, IsTrue, length, map, drop, slice_index, slice_index_or, ◌==◌};
+ghost use Rattle.std.specs.List.{list_all, list_any};
+ghost use Rattle.mapdb_exchange.specs.Reports.{AreApart, AreParts, HoldSame, IsPart, at_seat, is_heard, issues_of, place_of, takes_of, wanted_memory};
+
+use mapdb_facts::Op;
+use mapdb_node::{Entry, History, NodeEvent, NodeReply};
+use mapdb_replica::{Command, IssueFault, Replica, TakeFault};
+
+/// What one processor did in an exchange.
+#[derive(Drop)]
+pub struct Part {
+    /// The processor.
+    pub processor: u8,
+    /// How many commands its script has.
+    pub commands: usize,
+    /// The numbers of its workers' seats: the issuing worker's, and then those of the receiving workers, ascending by the
+    /// processor that each hears.
+    pub seats: Vec<u32>,
+    /// All calls at its node, and its copy.
+    pub history: History,
+}
+
+/// What all processors did in an exchange.
+#[derive(Drop)]
+pub struct Report {
+    /// One part for each script, in their order.
+    pub parts: Vec<Part>,
+}
+
+/// Whether the histories show these scripts, and that each processor took what the others issued.
+pub(crate) fn agrees(scripts: &[Vec<Command>], parts: &[Part]) -> bool
+    ensures { IsTrue result → AreParts (map (λ v. v.items) scripts.now) parts.now }
+{
+    if parts.len() != scripts.len() {
+        return false;
+    }
+    for k in 0..parts.len() {
+        if !is_part(parts, k, scripts[k].as_slice()) {
+            return false;
+        }
+    }
+    true
+}
+
+/// Where each processor took what the others issued, each copy holds what all issued, and nothing else. This does nothing: it
+/// tells proofs so.
+pub(crate) fn hold_same(scripts: &[Vec<Command>], parts: &[Part])
+    requires { AreParts (map (λ v. v.items) scripts.now) parts.now }
+    ensures { HoldSame parts.now }
+{
+    let _counts = (scripts.len(), parts.len());
+}
+
+/// Whether the part at a place is that of the processor of this number with this script.
+fn is_part(parts: &[Part], k: usize, script: &[Command]) -> bool
+    requires { k < length parts.now }
+    ensures { IsTrue result → ((d : _) → IsPart parts.now k script.now (slice_index_or parts.now k d)) }
+{
+    let part = &parts[k];
+    let seats = part.seats.as_slice();
+    let entries = part.history.entries();
+    if part.processor as usize != k || part.history.copy().processor() as usize != k {
+        return false;
+    }
+    if part.commands != script.len() || seats.len() != parts.len() || !are_apart(seats) {
+        return false;
+    }
+    has_script(entries, seats[0], script)
+        && hears_all(parts, k, seats, entries)
+        && are_heard(entries, &seats[1..])
+        && had_memory(entries)
+}
+
+/// Whether no number stands twice.
+fn are_apart(seats: &[u32]) -> bool
+    ensures { IsTrue result → AreApart seats.now }
+{
+    let mut rest = seats;
+    while let Some((seat, others)) = rest.split_first() {
+        if is_among(others, *seat) {
+            return false;
+        }
+        rest = others;
+    }
+    true
+}
+
+/// Whether the number stands among the seats.
+fn is_among(seats: &[u32], number: u32) -> bool
+    ensures { result ≡ list_any (λ s. s == number) seats.now }
+{
+    seats.iter().any(|seat| *seat == number)
+}
+
+/// Whether the commands among the entries are this script, all at this seat.
+fn has_script(entries: &[Entry], seat: u32, script: &[Command]) -> bool
+    ensures { IsTrue result → issues_of entries.now ≡ map (at_seat seat) script.now }
+{
+    let mut next = 0;
+    for entry in entries {
+        if let NodeEvent::Issue(command) = entry.event {
+            if next == script.len()
+                || entry.seat != seat
+                || !is_same_command(&command, &script[next])
+            {
+                return false;
+            }
+            next += 1;
+        }
+    }
+    next == script.len()
+}
+
+/// Whether both are one command.
+fn is_same_command(command: &Command, other: &Command) -> bool
+    ensures { IsTrue result → command.now ≡ other.now }
+{
+    is_same_event(&NodeEvent::Issue(*command), &NodeEvent::Issue(*other))
+}
+
+/// Whether both are one event.
+fn is_same_event(event: &NodeEvent, other: &NodeEvent) -> bool
+    ensures { IsTrue result → event.now ≡ other.now }
+{
+    *event == *other
+}
+
+/// Whether each other processor's own operations are what was taken at the seat that hears it.
+fn hears_all(parts: &[Part], k: usize, seats: &[u32], entries: &[Entry]) -> bool
+    requires { length seats.now ≡ length parts.now }
+    ensures { IsTrue result → ((q : ℕ) (d : _) → q < length parts.now → q ≢ k → takes_of (slice_index seats.now (place_of k q)) entries.now ≡ (slice_index_or parts.now q d).history.copy.own) }
+{
+    for q in 0..parts.len() {
+        if q != k {
+            let place = if q < k { q + 1 } else { q };
+            if place >= seats.len() || !has_own(entries, seats[place], &parts[q]) {
+                return false;
+            }
+        }
+    }
+    true
+}
+
+/// Whether what was taken at a seat is what a processor issued.
+fn has_own(entries: &[Entry], seat: u32, part: &Part) -> bool
+    ensures { IsTrue result → takes_of seat entries.now ≡ part.now.history.copy.own }
+{
+    has_taken(entries, seat, part.history.copy())
+}
+
+/// Whether the copy's own operations are what was taken at a seat, in order.
+fn has_taken(entries: &[Entry], seat: u32, copy: &Replica) -> bool
+    ensures { IsTrue result → takes_of seat entries.now ≡ copy.now.own }
+{
+    let count = copy.own_len();
+    let mut next = 0;
+    for entry in entries {
+        let NodeEvent::Take(op) = entry.event else {
+            continue;
+        };
+        if entry.seat == seat {
+            if next == count || !is_own(copy, next, &op) {
+                return false;
+            }
+            next += 1;
+        }
+    }
+    next == count
+}
+
+/// Whether the copy's own operation at a place is this one.
+fn is_own(copy: &Replica, place: u32, op: &Op) -> bool
+    ensures { IsTrue result → drop place copy.now.own ≡ op.now ∷ drop (place + 1) copy.now.own }
+{
+    match copy.own_at(place) {
+        Some(own) => is_same_op(&own, op),
+        None => false,
+    }
+}
+
+/// Whether both are one operation.
+fn is_same_op(op: &Op, other: &Op) -> bool
+    ensures { IsTrue result → op.now ≡ other.now }
+{
+    *op == *other
+}
+
+/// Whether each operation that was taken is held, and was taken at one of these seats.
+fn are_heard(entries: &[Entry], seats: &[u32]) -> bool
+    ensures { result ≡ list_all (λ e. is_heard seats.now e.seat e.event e.reply) entries.now }
+{
+    entries.iter().all(|entry| is_heard(entry, seats))
+}
+
+/// Whether the entry, where it takes an operation, does so at one of these seats, and the operation is held.
+fn is_heard(entry: &Entry, seats: &[u32]) -> bool
+    ensures { result ≡ is_heard seats.now entry.now.seat entry.now.event entry.now.reply }
+{
+    match entry.event {
+        NodeEvent::Take(_) => matches!(entry.reply, NodeReply::Taken(_))
+            && is_among(seats, entry.seat),
+        _ => true,
+    }
+}
+
+/// Whether memory was wanted inside none of the events.
+fn had_memory(entries: &[Entry]) -> bool
+    ensures { result ≡ list_all (λ e. not (wanted_memory e.reply)) entries.now }
+{
+    entries.iter().all(|entry| !wanted_memory(&entry.reply))
+}
+
+/// Whether memory was wanted inside the event.
+fn wanted_memory(reply: &NodeReply) -> bool
+    ensures { result ≡ wanted_memory reply.now }
+{
+    matches!(
+        reply,
+        NodeReply::IssueRefused(IssueFault::Memory { .. })
+            | NodeReply::TakeRefused(TakeFault::Memory { .. })
+    )
+}
