@@ -18,7 +18,7 @@ use Rattle.mapdb_script.specs.Cluster.{with_accepted, with_copy}
 use Rattle.mapdb_script.specs.Reply.{records_text}
 use Rattle.mapdb_script.specs.States.{Does, IsTold}
 use Rattle.mapdb_script.specs.declared.cluster.Reply.{Reply as Answer}
-use Rattle.mapdb_script.specs.declared.fault.LineFault.{LineFault}
+use Rattle.mapdb_lines.specs.declared.fault.LineFault.{LineFault}
 use Rattle.mapdb_script.specs.declared.turn_fault.TurnFault.{TurnFault}
 
 -- the copy of one processor more

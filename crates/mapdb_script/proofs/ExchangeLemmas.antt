@@ -17,7 +17,7 @@ use Rattle.mapdb_script.specs.Reply.{taken_text}
 use Rattle.mapdb_replica.specs.Merging.{Merges}
 use Rattle.mapdb_script.specs.States.{Answers, Does, IsTakeTold}
 use Rattle.mapdb_script.specs.declared.cluster.Reply.{Reply as Answer}
-use Rattle.mapdb_script.specs.declared.fault.LineFault.{LineFault}
+use Rattle.mapdb_lines.specs.declared.fault.LineFault.{LineFault}
 use Rattle.mapdb_script.specs.declared.replies.Refusal.TheVariants as refusal
 use Rattle.mapdb_script.specs.declared.turn_fault.TurnFault.{TurnFault}
 use Rattle.mapdb_script.proofs.ClusterLemmas.{at_processor_there, with_copy_same}

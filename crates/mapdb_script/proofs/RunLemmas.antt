@@ -3,27 +3,27 @@ use Rattle.std.proofs.Common.{◌≡◌, ◌≢◌, ℕ, ◌+◌, ◌-◌, ◌<�
 use Rattle.std.specs.Prelude.{nat_lt, nat_le, Option, Some, None, Result, Ok, Err}
 use Rattle.std.proofs.lemmas.List.{append-nil, length-append}
 use Rattle.std.proofs.lemmas.Bool.{lt-ltb, ltb-false, leb-false}
-use Rattle.mapdb_script.specs.Lines.{lines_of, HasNoEnd}
-use Rattle.mapdb_script.specs.Limits.{line_limit, most_lines}
+use Rattle.mapdb_lines.specs.Lines.{lines_of, HasNoEnd}
+use Rattle.mapdb_lines.specs.Limits.{line_limit, most_lines}
 use Rattle.mapdb_script.specs.Cluster.{Done, done_by}
-use Rattle.mapdb_script.specs.Spellings.{◌>>=◌}
-use Rattle.mapdb_script.specs.Grammar.{said_by}
-use Rattle.mapdb_script.specs.Faults.{script_fault}
+use Rattle.mapdb_lines.specs.Spellings.{◌>>=◌}
+use Rattle.mapdb_lines.specs.Grammar.{said_by}
+use Rattle.mapdb_lines.specs.Faults.{script_fault}
 use Rattle.std.specs.Io.KnownBytes.{Consumes, Appends}
 use Rattle.mapdb_script.specs.Script.{State, start, turn, turn_of, turned, Output, output_from, output_of, behind, after_turn, fault_line, Finished, Faulted}
-use Rattle.mapdb_script.specs.Fronts.{BeginsWith}
-use Rattle.mapdb_script.specs.Reading.{Reads}
+use Rattle.mapdb_lines.specs.Fronts.{BeginsWith}
+use Rattle.mapdb_lines.specs.Reading.{Reads}
 use Rattle.mapdb_script.specs.Run.{turn_text, Tells, Responds}
-use Rattle.mapdb_script.specs.declared.fault.LineFault.{LineFault}
-use Rattle.mapdb_script.specs.declared.fault.LineFault.TheVariants as fault
-use Rattle.mapdb_script.specs.declared.fault.ScriptFault.{ScriptFault}
-use Rattle.mapdb_script.specs.declared.fault.ScriptFault.TheVariants as script
-use Rattle.mapdb_script.specs.declared.reading.ReadFault.{ReadFault}
-use Rattle.mapdb_script.specs.declared.reading.ReadFault.TheVariants as read
-use Rattle.mapdb_script.specs.declared.lines.Line.{Line}
-use Rattle.mapdb_script.specs.declared.reading.Progress.{Progress}
-use Rattle.mapdb_script.specs.declared.reading.Progress.TheVariants as progress
-use Rattle.mapdb_script.proofs.LineLemmas.{lines_of-ended, lines_of-open, lines_of-last, Consumes-append}
+use Rattle.mapdb_lines.specs.declared.fault.LineFault.{LineFault}
+use Rattle.mapdb_lines.specs.declared.fault.LineFault.TheVariants as fault
+use Rattle.mapdb_lines.specs.declared.fault.ScriptFault.{ScriptFault}
+use Rattle.mapdb_lines.specs.declared.fault.ScriptFault.TheVariants as script
+use Rattle.mapdb_lines.specs.declared.reading.ReadFault.{ReadFault}
+use Rattle.mapdb_lines.specs.declared.reading.ReadFault.TheVariants as read
+use Rattle.mapdb_lines.specs.declared.lines.Line.{Line}
+use Rattle.mapdb_lines.specs.declared.reading.Progress.{Progress}
+use Rattle.mapdb_lines.specs.declared.reading.Progress.TheVariants as progress
+use Rattle.mapdb_lines.proofs.LineLemmas.{lines_of-ended, lines_of-open, lines_of-last, Consumes-append}
 
 -- After the bytes `done` the text was written, and from the state the script goes on, whatever follows.
 pub record Continues (done text : List ℕ) (s : State) : Type 0 where
@@ -134,10 +134,10 @@ faulted done w bytes line ahead p s f k r some e =
     k.goes_on bytes ∙ (ap (behind w) (first.1 ∙ rw e refl))
 
 -- whether more bytes may follow
-reads_more : (bytes line ahead more : List ℕ) → Reads bytes progress.Whole line ahead → Reads (bytes ++ more) progress.Whole line (ahead ++ more)
+pub reads_more : (bytes line ahead more : List ℕ) → Reads bytes progress.Whole line ahead → Reads (bytes ++ more) progress.Whole line (ahead ++ more)
 reads_more bytes line ahead more r = (r.0, r.1, ap (λ (bs : List ℕ). bs ++ more) r.2 ∙ append_assoc line (10 ∷ ahead) more)
 
-long_more : (bytes line ahead more : List ℕ) → Reads bytes progress.TooLong line ahead → Reads (bytes ++ more) progress.TooLong line ahead
+pub long_more : (bytes line ahead more : List ℕ) → Reads bytes progress.TooLong line ahead → Reads (bytes ++ more) progress.TooLong line ahead
 long_more bytes line ahead more r = (r.0, r.1, r.2 ++ more, ap (λ (bs : List ℕ). bs ++ more) r.3 ∙ append_assoc line r.2 more)
 
 settled : (done w bytes line ahead : List ℕ) (p : Progress) (s : State) (f : LineFault) (Over : Type 0) → Continues done w s → Reads bytes p line ahead → p ≢ progress.Nothing → (p ≡ progress.Last → Over) → turn s line ≡ Err f

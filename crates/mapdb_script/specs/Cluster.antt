@@ -21,15 +21,16 @@ use Rattle.mapdb_replica.specs.declared.faults.TakeFault.TheVariants as take
 use Rattle.mapdb_snapshot.specs.Reading.{snapshot_of}
 use Rattle.mapdb_snapshot.specs.Snapshot.{snapshot_text}
 use Rattle.mapdb_snapshot.specs.declared.faults.SnapshotFault.{SnapshotFault}
+use Rattle.mapdb_table.specs.Table.{table}
 use Rattle.mapdb_script.specs.Accepting.{Accepted, with_next, heard, nothing}
-use Rattle.mapdb_script.specs.Limits.{most_processors}
+use Rattle.mapdb_lines.specs.Limits.{most_processors}
 use Rattle.mapdb_script.specs.Reply.{covers_text, ended_text, message_text, records_text, refusal_text, revocations_text, rights_text}
-use Rattle.mapdb_script.specs.Reply.{same_text, saved_text, served_text, taken_text, tree_text}
+use Rattle.mapdb_script.specs.Reply.{same_text, saved_text, served_text, table_text, taken_text, tree_text}
 use Rattle.mapdb_script.specs.Replaying.{tree_answer}
-use Rattle.mapdb_script.specs.declared.fault.LineFault.{LineFault}
-use Rattle.mapdb_script.specs.declared.fault.LineFault.TheVariants as fault
-use Rattle.mapdb_script.specs.declared.lines.Line.{Line}
-use Rattle.mapdb_script.specs.declared.lines.Line.TheVariants as line
+use Rattle.mapdb_lines.specs.declared.fault.LineFault.{LineFault}
+use Rattle.mapdb_lines.specs.declared.fault.LineFault.TheVariants as fault
+use Rattle.mapdb_lines.specs.declared.lines.Line.{Line}
+use Rattle.mapdb_lines.specs.declared.lines.Line.TheVariants as line
 use Rattle.mapdb_script.specs.declared.replies.Refusal.{Refusal}
 use Rattle.mapdb_script.specs.declared.replies.Refusal.TheVariants as refusal
 
@@ -199,6 +200,7 @@ done_by cluster (line.Same at other) = at_processors cluster at other (same_answ
 done_by cluster (line.Covers at other) = at_processors cluster at other (covers_answer cluster)
 done_by cluster (line.Save at) = at_processor cluster at (λ copy. answered cluster (saved_text (snapshot_text copy.ops)))
 done_by cluster (line.Load at text) = at_processor cluster at (loaded cluster at (snapshot_of text))
+done_by cluster (line.Table at) = at_processor cluster at (λ copy. answered cluster (table_text (table copy.ops)))
 
 -- a line of the output
 abbrev pub reply_line : List ℕ → List ℕ

@@ -4,9 +4,6 @@ ghost use Rattle.std.specs.Prelude.{◌≡◌, ◌≤◌, IfOk, map};
 ghost use Rattle.std.specs.List.{range_with_len};
 ghost use Rattle.mapdb_replica.specs.Replica.{empty};
 
-use crate::fault::LineFault;
-use crate::limits::MOST_PROCESSORS;
-use crate::lines::Line;
 use crate::messages::Message;
 use crate::replies::{
     Refusal, ended_text, records_text, revocations_text, rights_text, served_text, taken_text,
@@ -16,6 +13,7 @@ use crate::sequence::{Sequence, map_command, unmap_command};
 use crate::turn_fault::TurnFault;
 use mapdb_facts::Space;
 use mapdb_fpage::{Fpage, MapItem, PAGE_BYTES, Rights};
+use mapdb_lines::{Line, LineFault, MOST_PROCESSORS};
 use mapdb_replica::{Command, IssueFault, Replica, TakeFault};
 use std::alloc::{AllocError, Global};
 
@@ -300,6 +298,7 @@ impl Cluster {
             Line::Covers(at, other) => self.covers(at, other),
             Line::Save(at) => self.save(at),
             Line::Load(at, text) => self.load(at, text),
+            Line::Table(at) => self.table(at),
         }
     }
 }

@@ -1,10 +1,10 @@
 //! What copies tell each other by the lines of a script, and how they compare.
 
 use crate::cluster::{Cluster, Reply};
-use crate::fault::LineFault;
 use crate::messages::Message;
 use crate::replies::{Refusal, covers_text, message_text, same_text};
 use crate::turn_fault::TurnFault;
+use mapdb_lines::LineFault;
 use mapdb_replica::{GiveFault, merge_among};
 
 impl Cluster {

@@ -1,39 +1,30 @@
 //! The script engine, from bytes to bytes.
 //!
 //! A script is lines of bytes; each line that says something is a command or a query of a cluster of copies, and has a
-//! reply. [`parse_line`] reads one line, [`run`] a whole script, from a [`Source`] to a [`Sink`].
+//! reply. [`parse_line`] reads one line, [`run`] a whole script, from a [`Source`] to a [`Sink`], and [`thread_scripts`] a script
+//! whose commands are to run in threads.
 #![tactic(auto)]
 
 mod cluster;
 mod engine;
 mod exchange;
-mod fault;
-mod grammar;
-mod limits;
-mod lines;
 mod messages;
-mod number;
-mod reading;
 mod replay;
 mod replies;
 mod script;
 mod sequence;
 mod snapshots;
-mod spellings;
-mod streams;
-mod text;
+mod tables;
+mod threads;
 mod turn_fault;
-mod words;
-mod writing;
 
-pub use fault::{LineFault, ScriptFault, Summary};
-pub use grammar::parse_line;
-pub use lines::Line;
+pub use mapdb_lines::{
+    Failed, FromRead, Line, LineFault, ScriptFault, Sink, Source, Summary, Text, ToWrite,
+    parse_line, write_all,
+};
 pub use mapdb_snapshot::{SnapshotFault, snapshot_read, snapshot_text};
-pub use script::run;
-pub use streams::{Failed, FromRead, Sink, Source, ToWrite};
-pub use text::Text;
-pub use writing::write_all;
+pub use script::{fault_text, run};
+pub use threads::thread_scripts;
 
 #[cfg(test)]
 mod tests;

@@ -3,10 +3,10 @@
 ghost use Rattle.std.specs.Prelude.{◌≡◌, ◌∷◌, ◌++◌, IfOk, string_bytes};
 ghost use Rattle.mapdb_script.specs.Reply.{name_text, frame_text, mapping_text, records_text, revocations_text, ended_text, rights_text, served_text, tree_text, message_text, taken_text, same_text, covers_text, saved_text, bad_name, snapshot_name};
 
-use crate::fault::LineFault;
 use crate::replay::TreeAnswer;
 use mapdb_facts::{OpFault, RecordId, Space};
 use mapdb_fpage::Rights;
+use mapdb_lines::LineFault;
 use mapdb_snapshot::SnapshotFault;
 use std::alloc::{AllocError, Global};
 
@@ -74,9 +74,9 @@ pub fn ended_text(alloc: Global, space: Space) -> Result<String, AllocError>
     format!(in alloc; "ended {number}")
 }
 
-/// A frame, in at least five hexadecimal digits.
+/// A page or a frame, in at least five hexadecimal digits.
 #[tactic(auto, using(crate::proofs::ReplyLemmas::padded_frame))]
-fn frame_text(alloc: Global, frame: u32) -> Result<String, AllocError>
+pub fn frame_text(alloc: Global, frame: u32) -> Result<String, AllocError>
     ensures { IfOk result (λ text. string_bytes text ≡ frame_text frame) }
 {
     format!(in alloc; "{frame:05x}")
@@ -84,7 +84,7 @@ fn frame_text(alloc: Global, frame: u32) -> Result<String, AllocError>
 
 /// A frame and the rights to it.
 #[tactic(auto, using(crate::proofs::ReplyLemmas::letter_bytes))]
-fn mapping_text(alloc: Global, frame: u32, rights: Rights) -> Result<String, AllocError>
+pub fn mapping_text(alloc: Global, frame: u32, rights: Rights) -> Result<String, AllocError>
     ensures { IfOk result (λ text. string_bytes text ≡ mapping_text frame rights) }
 {
     let mut text = frame_text(alloc, frame)?;

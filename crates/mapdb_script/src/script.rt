@@ -7,15 +7,12 @@ ghost use Rattle.mapdb_script.specs.Script.{turn, fault_line};
 ghost use Rattle.mapdb_script.specs.Run.{IsOver, Tells, Responds};
 
 use crate::engine::Engine;
-use crate::fault::{LineFault, ScriptFault, Summary};
-use crate::reading::{Progress, Reading};
-use crate::streams::{Sink, Source};
 use crate::turn_fault::TurnFault;
-use crate::writing::write_all;
+use mapdb_lines::{LineFault, Progress, Reading, ScriptFault, Sink, Source, Summary, write_all};
 use std::alloc::{AllocError, Global};
 
-/// The line that tells a fault.
-fn fault_text(alloc: Global, number: u64, fault: LineFault) -> Result<String, AllocError>
+/// The line that the output ends with at a faulty line: its number, counted from 1, and the name of the fault.
+pub fn fault_text(alloc: Global, number: u64, fault: LineFault) -> Result<String, AllocError>
     ensures { IfOk result (λ text. string_bytes text ≡ fault_line number fault) }
 {
     let name = fault.name();

@@ -2,10 +2,11 @@
 
 mod examples;
 mod exchange;
-mod lines;
 mod rows;
 mod snapshots;
 mod streams;
+mod tables;
+mod threads;
 mod tree;
 mod unmapping;
 mod words;

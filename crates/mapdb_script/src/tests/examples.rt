@@ -139,6 +139,32 @@ const UNSEEN_CHILD: (&str, &str) = (
     rights 00010:r--\n",
 );
 
+const LOAD_PAGE_TABLES: (&str, &str) = (
+    "# What processor 0 loads into its page tables, as its copy has it.\n\
+    processors 1\n\
+    map 0 0 10000/14:rw- 0 1 40000/14\n\
+    map 0 1 40000/14:r-- 0 2 80000/14\n\n\
+    # A row is a run of pages of a space: the first page, how many there are, and the frame of the first one, which rises by\n\
+    # one from page to page, with the rights. All of space 0 is one run.\n\
+    table 0\n\n\
+    # A revocation from the second page cuts space 1's run in three. Space 2 never had the right to write, so its run stays.\n\
+    unmap 0 0 11000/12:-w- keep\n\
+    table 0\n",
+    "records 1.0\
+    \nrecords 2.0\
+    \ntable 3\
+    \nrow 0 00000 1048576 00000:rwx\
+    \nrow 1 00040 4 00010:rw-\
+    \nrow 2 00080 4 00010:r--\
+    \nrevocations 1\
+    \ntable 5\
+    \nrow 0 00000 1048576 00000:rwx\
+    \nrow 1 00040 1 00010:rw-\
+    \nrow 1 00041 1 00011:r--\
+    \nrow 1 00042 2 00012:rw-\
+    \nrow 2 00080 4 00010:r--\n",
+);
+
 const SAVE_AND_LOAD: (&str, &str) = (
     "# Processor 0 maps four pages, takes the right to write from one of them, and ends a space.\n\
     processors 3\n\
@@ -193,6 +219,12 @@ fn every_order(rt: HostRuntime) -> Result<(), Fail> {
 #[test]
 fn unseen_child(rt: HostRuntime) -> Result<(), Fail> {
     let (script, output) = UNSEEN_CHILD;
+    gives(&rt, rt.alloc(), script, output)
+}
+
+#[test]
+fn load_page_tables(rt: HostRuntime) -> Result<(), Fail> {
+    let (script, output) = LOAD_PAGE_TABLES;
     gives(&rt, rt.alloc(), script, output)
 }
 

@@ -1,8 +1,8 @@
 use Rattle.std.proofs.Common.{◌++◌, [], ap, ℕ, List, arith, inl, inr}
 use Rattle.std.proofs.lemmas.Result.{err_from_is_err_and}
 use Rattle.mapdb_script.specs.States.{state_of}
-use Rattle.mapdb_script.specs.Reading.{ahead_of, line_of}
-use Rattle.mapdb_script.proofs.LineLemmas.{Appends-append}
+use Rattle.mapdb_lines.specs.Reading.{ahead_of, line_of}
+use Rattle.mapdb_lines.proofs.LineLemmas.{Appends-append}
 use Rattle.mapdb_script.proofs.RunLemmas.{begins, tells_unread, tells_nothing, tells_stopped, tells_last, next_line, turn_lines, turn_few, falls_by_line, Consumes-grow, Consumes-same, Consumes-none, Appends-none}
 use Rattle.mapdb_script.proofs.script.run.Goals as goal
 

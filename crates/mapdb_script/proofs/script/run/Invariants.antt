@@ -1,8 +1,8 @@
 use Rattle.std.proofs.Common.{◌≤◌, ◌++◌, ◌+◌, ◌-◌, ℕ, List}
 use Rattle.std.specs.Io.KnownBytes.{Appends, Consumes}
 use Rattle.mapdb_script.specs.States.{state_of}
-use Rattle.mapdb_script.specs.Limits.{most_lines}
-use Rattle.mapdb_script.specs.Reading.{ahead_of}
+use Rattle.mapdb_lines.specs.Limits.{most_lines}
+use Rattle.mapdb_lines.specs.Reading.{ahead_of}
 use Rattle.mapdb_script.proofs.RunLemmas.{Continues}
 use Rattle.mapdb_script.proofs.script.run.Given as goal
 

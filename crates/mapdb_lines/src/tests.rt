@@ -1,0 +1,4 @@
+//! What lines say, and their faults in order.
+
+mod lines;
+mod words;
