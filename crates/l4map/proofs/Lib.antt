@@ -1,1 +1,2 @@
-mod SubcommandLemmas
+pub mod CommandLemmas
+pub mod ReportLemmas

@@ -1,10 +1,10 @@
 -- The statuses of the program, and what it tells on the errors.
 use Rattle.std.specs.Prelude.{◌≡◌, ◌⊎◌, ℕ, ⊤, List, [], Bool, true, false, Option, Result, Ok, Err, codes}
 use Rattle.std.specs.Io.KnownBytes.{Appends}
-use Rattle.mapdb_script.specs.Fronts.{BeginsWith}
-use Rattle.mapdb_script.specs.declared.fault.Summary.{Summary}
-use Rattle.mapdb_script.specs.declared.fault.ScriptFault.{ScriptFault}
-use Rattle.mapdb_script.specs.declared.fault.ScriptFault.TheVariants as fault
+use Rattle.mapdb_lines.specs.Fronts.{BeginsWith}
+use Rattle.mapdb_lines.specs.declared.fault.Summary.{Summary}
+use Rattle.mapdb_lines.specs.declared.fault.ScriptFault.{ScriptFault}
+use Rattle.mapdb_lines.specs.declared.fault.ScriptFault.TheVariants as fault
 
 -- the status of a run
 abbrev pub status_of : Result Summary ScriptFault → ℕ

@@ -7,8 +7,39 @@ pub const ABOUT: &str = "Runs scripts on a replicated L4 X.2 mapping database.";
 pub const RUN_ABOUT: &str =
     "Reads a script from standard input and writes the replies to standard output";
 
+/// What `threads` does, in a line.
+pub const THREADS_ABOUT: &str =
+    "Runs the commands of a script, those of each processor in threads of their own";
+
+/// What the capacity is.
+pub const CAPACITY_HELP: &str = "How many messages a link between two processors holds, 1 to 1024";
+
+/// Why a capacity is refused.
+pub const NO_CAPACITY: &str = "the capacity of a link is a number from 1 to 1024";
+
+/// What is written for a script in threads, and the statuses.
+pub const THREADS_HELP: &str = "\
+The script has the lines processors (1 to 4), map, words, unmap and end, as of `l4map run`. Each processor runs its
+commands while it takes what the others issue. At the end there is a line for each, with how many commands it had and
+how many operations it issued, and then `same yes` where all copies hold the same.
+
+Example:
+  $ printf 'processors 2\\nmap 0 0 10000/12:rw- 0 1 20000/12\\nend 1 9\\n' | l4map threads
+  processor 0 commands 1 issued 1
+  processor 1 commands 1 issued 1
+  same yes
+
+Status: 0 done, 1 a faulty line (the output says which) or a failed run, 2 command line refused or
+help asked for, 3 read or write failed, 4 out of memory.";
+
+/// How `run` is called.
+pub const RUN_USAGE: &str = "l4map run < SCRIPT";
+
+/// How `threads` is called.
+pub const THREADS_USAGE: &str = "l4map threads [--capacity N] < SCRIPT";
+
 /// How the program is called. A refused command line shows it too.
-pub const USAGE: &str = "l4map run < SCRIPT";
+pub const USAGE: &str = "l4map run < SCRIPT\n       l4map threads [--capacity N] < SCRIPT";
 
 /// The lines of a script, an example, and the statuses.
 pub const SCRIPT_HELP: &str = "\
@@ -35,6 +66,7 @@ Lines of a script:
   covers P Q                 asks whether P's copy holds all that Q's copy holds
   save P                     asks for the snapshot of P's copy, as JSON
   load P TEXT                has P's copy take what a snapshot says
+  table P                    asks for the translation table of P's copy
   # ...                      a comment
 
 Words of a line:

@@ -2,7 +2,10 @@
 
 ghost use Rattle.std.specs.Prelude.{◌≡◌};
 ghost use Rattle.l4map.specs.Statuses.{IsTold, memory_message, message_of};
+ghost use Rattle.l4map.specs.Threaded.{run_message, threads_message};
 
+use crate::threaded::ThreadsFault;
+use mapdb_exchange::RunFault;
 use mapdb_script::{ScriptFault, Sink, Summary, write_all};
 
 /// Told where memory was wanted.
@@ -20,6 +23,31 @@ pub fn message(outcome: &Result<Summary, ScriptFault>) -> &'static [u8]
         Err(ScriptFault::Read) => b"l4map: read failed\n",
         Err(ScriptFault::Write) => b"l4map: write failed\n",
         Err(ScriptFault::Memory) => OUT_OF_MEMORY,
+    }
+}
+
+/// What is told of a run in threads that gave no report.
+fn run_message(why: RunFault) -> &'static [u8]
+    ensures { result.now ≡ run_message why }
+{
+    match why {
+        RunFault::BadCount => b"run fault count\n",
+        RunFault::Memory => OUT_OF_MEMORY,
+        RunFault::NoThread => b"run fault thread\n",
+        RunFault::Node(_) => b"run fault node\n",
+        RunFault::Gate => b"run fault gate\n",
+        RunFault::Link => b"run fault link\n",
+    }
+}
+
+/// What is told of a script in threads: nothing of a faulty line, which the output tells.
+pub fn threads_message(outcome: &Result<(), ThreadsFault>) -> &'static [u8]
+    ensures { result.now ≡ threads_message outcome.now }
+{
+    match outcome {
+        Ok(()) => b"",
+        Err(ThreadsFault::Script(fault)) => message(&Err(*fault)),
+        Err(ThreadsFault::Run(why)) => run_message(*why),
     }
 }
 

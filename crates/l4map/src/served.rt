@@ -6,16 +6,22 @@ ghost use Rattle.std.specs.declared.io.ErrorKind.TheVariants as io_kind;
 ghost use Rattle.clap.specs.Words.{kind_of};
 ghost use Rattle.mapdb_script.specs.Run.{IsOver, Tells};
 ghost use Rattle.l4map.specs.Commands.{job_in};
+ghost use Rattle.l4map.specs.Threaded.{BlamesThreads, TellsThreads, threads_message, threads_status};
+ghost use Rattle.l4map.specs.declared.threaded.ThreadsFault.{ThreadsFault};
 ghost use Rattle.l4map.specs.Statuses.{BlamesFailed, IsTold, Refuses, WantsMemory, message_of, status_of, words_message};
 
 use crate::commands::{Job, job_of};
-use crate::messages::{OUT_OF_MEMORY, WORDS_ARE_NO_TEXT, message, tell};
+use crate::messages::{OUT_OF_MEMORY, WORDS_ARE_NO_TEXT, message, tell, threads_message};
+use crate::threaded::{ThreadsFault, run_threads};
 use clap::Error;
 use clap::error::ErrorKind;
+use mapdb_exchange::RunFault;
 use mapdb_script::{ScriptFault, Sink, Source, Summary, run};
 use std::alloc::Global;
 use std::convert::AsStr;
 use std::io;
+use std::sync::Wait;
+use std::thread::Threads;
 
 /// The status of a run.
 fn status(outcome: &Result<Summary, ScriptFault>) -> u8
@@ -70,10 +76,70 @@ pub fn refuse_unread<E: Sink>(kind: io::ErrorKind, errors: &mut E) -> u8
     2
 }
 
+/// The status of a script in threads.
+fn threads_status(outcome: &Result<(), ThreadsFault>) -> u8
+    ensures { result ≡ threads_status outcome.now }
+{
+    match outcome {
+        Ok(()) => 0,
+        Err(ThreadsFault::Script(ScriptFault::Line { .. })) => 1,
+        Err(ThreadsFault::Script(ScriptFault::Read | ScriptFault::Write)) => 3,
+        Err(ThreadsFault::Script(ScriptFault::Memory) | ThreadsFault::Run(RunFault::Memory)) => 4,
+        Err(ThreadsFault::Run(_)) => 1,
+    }
+}
+
+/// Runs a script, tells the errors how that ended, and answers the status.
+fn serve_script<R: Source, W: Sink, E: Sink>(
+    alloc: Global,
+    reader: &mut R,
+    writer: &mut W,
+    errors: &mut E,
+) -> u8
+    requires reader_works { R.has_failed reader.old ≡ false }
+    requires writer_works { W.has_failed writer.old ≡ false }
+    ensures { (outcome : Result Summary ScriptFault) × (input text : List ℕ)
+        × Consumes (R.left reader.old) (R.left reader.new) input
+        × Appends (W.written writer.old) (W.written writer.new) text
+        × Tells outcome input text (IsOver (R.has_ended reader.new) (R.left reader.new))
+        × BlamesFailed outcome (R.has_failed reader.new) (W.has_failed writer.new)
+        × (result ≡ status_of outcome)
+        × IsTold (E.written errors.old) (E.written errors.new) (E.has_failed errors.new) (message_of outcome) }
+{
+    let outcome = run(alloc, reader, writer);
+    tell(errors, message(&outcome));
+    status(&outcome)
+}
+
+/// Runs a script in threads, tells the errors how that ended, and answers the status. It waits.
+fn serve_threads<T: Threads + Wait + Sync, R: Source, W: Sink, E: Sink>(
+    rt: &T,
+    alloc: Global,
+    capacity: usize,
+    reader: &mut R,
+    writer: &mut W,
+    errors: &mut E,
+) -> u8
+    requires reader_works { R.has_failed reader.old ≡ false }
+    requires writer_works { W.has_failed writer.old ≡ false }
+    ensures { (outcome : Result (Unit {0}) ThreadsFault) × (input text : List ℕ)
+        × Consumes (R.left reader.old) (R.left reader.new) input
+        × Appends (W.written writer.old) (W.written writer.new) text
+        × TellsThreads outcome input text (IsOver (R.has_ended reader.new) (R.left reader.new))
+        × BlamesThreads outcome (R.has_failed reader.new) (W.has_failed writer.new)
+        × (result ≡ threads_status outcome)
+        × IsTold (E.written errors.old) (E.written errors.new) (E.has_failed errors.new) (threads_message outcome) }
+{
+    let outcome = run_threads(rt, alloc, capacity, reader, writer);
+    tell(errors, threads_message(&outcome));
+    threads_status(&outcome)
+}
+
 /// Does what the words ask for, and answers the status: 0 where all is done, 1 where a line of the script is at fault, which
-/// the writer is told, 2 where clap refuses the words or they call for help, 3 where the reader or the writer failed, and 4
-/// where memory was wanted. The errors are told why at 2, 3 and 4; that they fail changes nothing.
-pub fn serve<T: AllocGlobal, S: AsStr, R: Source, W: Sink, E: Sink>(
+/// the writer is told, or where a run in threads gave no report, 2 where clap refuses the words or they call for help, 3
+/// where the reader or the writer failed, and 4 where memory was wanted. The errors are told why, but of a faulty line; that
+/// they fail changes nothing. It waits only for `threads`.
+pub fn serve<T: AllocGlobal + Threads + Wait + Sync, S: AsStr, R: Source, W: Sink, E: Sink>(
     rt: &T,
     words: &[S],
     reader: &mut R,
@@ -95,18 +161,27 @@ pub fn serve<T: AllocGlobal, S: AsStr, R: Source, W: Sink, E: Sink>(
         × (result ≡ status_of outcome)
         × IsTold (E.written errors.old) (E.written errors.new) (E.has_failed errors.new) (message_of outcome)) }
 
-    // Where clap refuses them.
+    // Where clap reads them as `threads`.
+    ensures threads { (capacity : ℕ) → job_in (map S.text words.now) ≡ Some (Job.Threads capacity) →
+        ((reader.new ≡ reader.old) × (writer.new ≡ writer.old)
+        × WantsMemory result (E.written errors.old) (E.written errors.new) (E.has_failed errors.new))
+        ⊎ ((outcome : Result (Unit {0}) ThreadsFault) × (input text : List ℕ)
+        × Consumes (R.left reader.old) (R.left reader.new) input
+        × Appends (W.written writer.old) (W.written writer.new) text
+        × TellsThreads outcome input text (IsOver (R.has_ended reader.new) (R.left reader.new))
+        × BlamesThreads outcome (R.has_failed reader.new) (W.has_failed writer.new)
+        × (result ≡ threads_status outcome)
+        × IsTold (E.written errors.old) (E.written errors.new) (E.has_failed errors.new) (threads_message outcome)) }
+
+    // Where they are refused.
     ensures refused { job_in (map S.text words.now) ≡ None →
         (reader.new ≡ reader.old) × (writer.new ≡ writer.old)
         × Refuses result (E.written errors.old) (E.written errors.new) (E.has_failed errors.new) }
 {
     let alloc = rt.alloc();
     match job_of(alloc, words) {
-        Ok(Job::Run) => {
-            let outcome = run(alloc, reader, writer);
-            tell(errors, message(&outcome));
-            status(&outcome)
-        }
+        Ok(Job::Run) => serve_script(alloc, reader, writer, errors),
+        Ok(Job::Threads { capacity }) => serve_threads(rt, alloc, capacity, reader, writer, errors),
         Err(error) => refuse(alloc, &error, errors),
     }
 }

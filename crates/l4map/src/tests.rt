@@ -2,3 +2,4 @@
 
 mod statuses;
 mod streams;
+mod threaded;

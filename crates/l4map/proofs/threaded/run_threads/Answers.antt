@@ -1,0 +1,38 @@
+use Rattle.std.proofs.Common.{rules, ◌≡◌, List, Err, subst}
+use Rattle.std.proofs.lemmas.Result.{err_from_is_err_and}
+use Rattle.mapdb_exchange.specs.declared.reports.Part.{Part}
+use Rattle.mapdb_lines.specs.declared.fault.ScriptFault.{ScriptFault}
+use Rattle.mapdb_lines.specs.declared.fault.ScriptFault.TheVariants.{Line}
+use Rattle.mapdb_script.specs.Run.{IsOver}
+use Rattle.mapdb_script.specs.Threading.{TellsScripts}
+use Rattle.l4map.specs.Threaded.{IsWritten, report_text}
+use Rattle.l4map.proofs.ReportLemmas.{fault_told, report_told}
+use Rattle.l4map.proofs.threaded.run_threads.Goals as goal
+
+pub returns-in_err-write_fault-in-Err-Line-clause-told :
+    goal.returns-in_err-write_fault-in-Err-Line-clause-told
+returns-in_err-write_fault-in-Err-Line-clause-told g c =
+    let p = err_from_is_err_and c.from_residual.result c.from_residual.ensures.1 in
+    let read = c.in-Err-Line.ensures.told in
+    let over = IsOver (g.R.Source.has_ended c.thread_scripts.new.reader) (g.R.Source.left c.thread_scripts.new.reader) in
+    let is_line : c.in-Err-Line.field-0 ≡ Line c.in-Err-Line.number c.in-Err-Line.fault = search rules in
+    let line = subst (λ (f : ScriptFault). TellsScripts (Err f) read.0 over) is_line read.2 in
+    let wrote = c.in_err-write_fault-in-Err-Line.ensures.told in (
+      read.0,
+      wrote.0,
+      read.1,
+      wrote.1,
+      rw (p.1, p.2) (fault_told c.in_err-write_fault-in-Err-Line.field-0.0 read.0 wrote.0 c.in-Err-Line.number c.in-Err-Line.fault over line.0 wrote.2),
+    )
+
+pub returns-in-Ok-run-clause-told : goal.returns-in-Ok-run-clause-told
+returns-in-Ok-run-clause-told g c =
+    let read = c.in-Ok.ensures.told in
+    let wrote = c.write_report.ensures.told in
+    let written = subst (λ (parts : List Part). IsWritten c.write_report.result (report_text parts) wrote.0) c.as_slice.ensures.value wrote.2 in (
+      read.0,
+      wrote.0,
+      read.1,
+      wrote.1,
+      report_told c.write_report.result read.0 wrote.0 _ c.in-Ok-run.report.parts.items _ read.2.0 read.2.1 c.in-Ok-run.ensures.parts c.in-Ok-run.ensures.same written,
+    )

@@ -1,0 +1,105 @@
+-- What a script in threads writes, and how it ends.
+use Rattle.std.specs.Prelude.{◌≡◌, ◌⊎◌, ⊤, ℕ, Bool, true, List, [], ◌++◌, Result, Ok, Err, codes, decimal, flat_map, length}
+use Rattle.mapdb_replica.specs.declared.commands.Command.{Command}
+use Rattle.mapdb_exchange.specs.Reports.{AreParts, HoldSame}
+use Rattle.mapdb_exchange.specs.declared.faults.RunFault.{RunFault}
+use Rattle.mapdb_exchange.specs.declared.faults.RunFault.TheVariants as run
+use Rattle.mapdb_exchange.specs.declared.reports.Part.{Part}
+use Rattle.mapdb_lines.specs.Fronts.{BeginsWith}
+use Rattle.mapdb_lines.specs.declared.fault.ScriptFault.{ScriptFault}
+use Rattle.mapdb_lines.specs.declared.fault.ScriptFault.TheVariants as script
+use Rattle.mapdb_script.specs.Cluster.{reply_line}
+use Rattle.mapdb_script.specs.Reply.{same_text}
+use Rattle.mapdb_script.specs.Script.{fault_line}
+use Rattle.mapdb_script.specs.Threading.{scripts_of}
+use Rattle.l4map.specs.Statuses.{memory_message, message_of, status_of}
+use Rattle.l4map.specs.declared.threaded.ThreadsFault.{ThreadsFault}
+use Rattle.l4map.specs.declared.threaded.ThreadsFault.TheVariants.{Run, Script}
+
+-- what is told of a processor: how many commands it had, and how many operations its copy issued
+abbrev pub processor_text : Part → List ℕ
+processor_text part = codes "processor " ++ (decimal part.processor
+    ++ (codes " commands " ++ (decimal part.commands ++ (codes " issued " ++ decimal (length part.history.copy.own)))))
+
+abbrev pub processor_line : Part → List ℕ
+processor_line part = reply_line (processor_text part)
+
+-- a line for each processor, and then that all copies hold the same
+abbrev pub report_text : List Part → List ℕ
+report_text parts = flat_map processor_line parts ++ reply_line (same_text true)
+
+-- the text of a report on the scripts of the input
+abbrev pub IsReport : List ℕ → List ℕ → Type 0
+IsReport input text =
+    (scripts : List (List Command)) × (parts : List Part) × (scripts_of input ≡ Ok scripts) × AreParts scripts parts × HoldSame parts
+    × (text ≡ report_text parts)
+
+-- the line that tells the fault of the input's first faulty line
+abbrev pub IsFaultLine : List ℕ → List ℕ → Type 0
+IsFaultLine input text = (number : ℕ) × (f : _) × (scripts_of input ≡ Err (number, f)) × (text ≡ fault_line number f)
+
+-- the faults of a writer, and of a want of memory
+abbrev pub write_failed : ThreadsFault
+write_failed = Script script.Write
+
+abbrev pub wants_memory : ThreadsFault
+wants_memory = Script script.Memory
+
+-- What is written of a text: all of it; a front of it where the writer failed; or nothing where memory was wanted.
+abbrev pub IsWritten : Result (Unit {0}) ThreadsFault → List ℕ → List ℕ → Type 0
+IsWritten (Ok done) whole front = front ≡ whole
+IsWritten (Err (Script script.Write)) whole front = BeginsWith whole front
+IsWritten (Err (Script script.Memory)) whole front = front ≡ []
+IsWritten (Err (Script script.Read)) whole front = ⊥
+IsWritten (Err (Script (script.Line number f))) whole front = ⊥
+IsWritten (Err (Run why)) whole front = ⊥
+
+-- What was written for an input of which this was read; `Over` says that the reader is over. At a faulty line the reader is
+-- over, or no further bytes would change the answer. Nothing is written where the exchange gives no report.
+abbrev pub TellsThreads : Result (Unit {0}) ThreadsFault → List ℕ → List ℕ → Type 0 → Type 0
+TellsThreads (Ok done) input text Over = Over × IsReport input text
+TellsThreads (Err (Script (script.Line number f))) input text Over =
+    (scripts_of input ≡ Err (number, f)) × (text ≡ fault_line number f)
+    × (Over ⊎ ((more : List ℕ) → scripts_of (input ++ more) ≡ scripts_of input))
+TellsThreads (Err (Script script.Read)) input text Over = text ≡ []
+TellsThreads (Err (Script script.Write)) input text Over =
+    (whole : List ℕ) × (IsReport input whole ⊎ IsFaultLine input whole) × BeginsWith whole text
+TellsThreads (Err (Script script.Memory)) input text Over = text ≡ []
+TellsThreads (Err (Run why)) input text Over =
+    Over × ((scripts : List (List Command)) × (scripts_of input ≡ Ok scripts)) × (text ≡ [])
+
+-- Where the reader or the writer is blamed, that one has failed.
+abbrev pub BlamesThreads : Result (Unit {0}) ThreadsFault → Bool → Bool → Type 0
+BlamesThreads (Err (Script script.Read)) reader_failed writer_failed = reader_failed ≡ true
+BlamesThreads (Err (Script script.Write)) reader_failed writer_failed = writer_failed ≡ true
+BlamesThreads outcome reader_failed writer_failed = ⊤
+
+-- the status of a run that gave no report
+abbrev pub run_status : RunFault → ℕ
+run_status run.BadCount = 1
+run_status run.Memory = 4
+run_status run.NoThread = 1
+run_status (run.Node why) = 1
+run_status run.Gate = 1
+run_status run.Link = 1
+
+-- the status of a script in threads
+abbrev pub threads_status : Result (Unit {0}) ThreadsFault → ℕ
+threads_status (Ok done) = 0
+threads_status (Err (Script fault)) = status_of (Err fault)
+threads_status (Err (Run why)) = run_status why
+
+-- what is told of a run that gave no report
+abbrev pub run_message : RunFault → List ℕ
+run_message run.BadCount = codes "run fault count\n"
+run_message run.Memory = memory_message
+run_message run.NoThread = codes "run fault thread\n"
+run_message (run.Node why) = codes "run fault node\n"
+run_message run.Gate = codes "run fault gate\n"
+run_message run.Link = codes "run fault link\n"
+
+-- what is told of a script in threads: nothing of a faulty line, which the output tells
+abbrev pub threads_message : Result (Unit {0}) ThreadsFault → List ℕ
+threads_message (Ok done) = []
+threads_message (Err (Script fault)) = message_of (Err fault)
+threads_message (Err (Run why)) = run_message why
