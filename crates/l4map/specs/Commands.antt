@@ -4,11 +4,11 @@ use Rattle.std.specs.Option.{option_map, option_and_then}
 use Rattle.std.specs.Str.{bytes_eq}
 use Rattle.clap.specs.Words.{App, Kinds, Row, Rule, Shape, Text, first_of, new_rule, with_subcommand, fault_of, subcommand_of}
 use Rattle.clap.specs.Simple.{new_shape}
+use Rattle.mapdb_exchange.specs.declared.links.TheConstants.{MOST_CAPACITY}
 use Rattle.mapdb_lines.specs.Limits.{decimal_digits}
 use Rattle.mapdb_lines.specs.Words.{number_of}
 use Rattle.l4map.specs.declared.commands.Job.{Job}
 use Rattle.l4map.specs.declared.commands.Job.TheVariants.{Run, Threads}
-use Rattle.l4map.specs.declared.commands.TheConstants.{MOST_CAPACITY}
 
 -- the argument `--capacity N`, which is 16 where it is not given
 abbrev pub capacity_rule : Rule

@@ -11,12 +11,10 @@ use crate::help::{
 };
 use clap::error::ErrorKind;
 use clap::{Arg, ArgMatches, Command, Error};
+use mapdb_exchange::MOST_CAPACITY;
 use mapdb_lines::{DECIMAL_DIGITS, number};
 use std::alloc::{AllocError, Global};
 use std::convert::AsStr;
-
-/// The most messages that a link may be asked to hold.
-const MOST_CAPACITY: u64 = 1_024;
 
 /// What is to be done.
 #[derive(Clone, Copy, Debug, PartialEq, Eq)]
@@ -78,7 +76,7 @@ fn capacity_said(word: &str) -> Option<usize>
     ensures value { result ≡ capacity_said word.now }
     ensures bounds { IfSome result (λ n. (1 ≤ n) × (n ≤ MOST_CAPACITY)) }
 {
-    let capacity = number(10, DECIMAL_DIGITS, MOST_CAPACITY, word.as_bytes())?;
+    let capacity = number(10, DECIMAL_DIGITS, MOST_CAPACITY as u64, word.as_bytes())?;
     if capacity == 0 {
         None
     } else {
