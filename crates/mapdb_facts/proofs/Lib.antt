@@ -27,3 +27,4 @@ pub mod Summing
 pub mod RunLists
 pub mod Changes
 pub mod FirstRuns
+pub mod LimitLemmas

@@ -45,7 +45,7 @@ impl Model for Facts {
 }
 
 impl Facts {
-    ghost use Rattle.std.specs.Prelude.{◌≡◌, ◌⊎◌, ◌+◌, ◌<◌, ◌≤◌, ◌↔◌, ℕ, true, false, Ok, Err, None, Some, IfOk, IfErr, IfSome, IsOk, IsSome, IsTrue, OnOk, OnErr, Result, Bool};
+    ghost use Rattle.std.specs.Prelude.{◌≡◌, ◌⊎◌, ◌+◌, ◌<◌, ◌≤◌, ◌↔◌, ℕ, true, false, Ok, Err, None, Some, IfOk, IfErr, IfSome, IsTrue, OnOk, OnErr, Result, Bool};
     ghost use Rattle.mapdb_facts.specs.Adding.{added, clash_of, cut_at, is_new, same_rights};
     ghost use Rattle.mapdb_facts.specs.Facts.{records_of_facts, state_of_facts};
     ghost use Rattle.mapdb_facts.specs.Looking.{Holds, IsFirstAbove, IsFound, IsGreatest, IsNextOfNumber};
@@ -279,12 +279,14 @@ impl Facts {
         }
     }
 
-    /// Adds an operation, and answers whether it was new. Each fault leaves the facts as they were.
+    /// Adds an operation, and answers whether it was new. Each fault leaves the facts as they were, and so does what is
+    /// not new, for which no memory is wanted.
     pub fn add(&mut self, op: Op) -> Result<bool, AddFault>
         ensures said { OnOk result (state_of_facts self.new ≡ join (state_of_facts self.old) (said op)) }
         ensures new { IfOk result (λ new. added (state_of_facts self.old) op ≡ Ok new) }
-        ensures err { IfErr result (λ fault. (added (state_of_facts self.old) op ≡ Err fault) ⊎ ((fault ≡ AddFault.Memory) × IsOk (added (state_of_facts self.old) op))) }
+        ensures err { IfErr result (λ fault. (added (state_of_facts self.old) op ≡ Err fault) ⊎ ((fault ≡ AddFault.Memory) × (added (state_of_facts self.old) op ≡ Ok true))) }
         ensures kept { OnErr result (self.new ≡ self.old) }
+        ensures known { is_new (state_of_facts self.old) op ≡ false → self.new ≡ self.old }
     {
         if let Err(fault) = check(&op) {
             return Err(AddFault::Bad(fault));

@@ -4,3 +4,4 @@ pub mod Parts
 pub mod Aligned
 pub mod WordParts
 pub mod WordsComeBack
+pub mod LimitLemmas

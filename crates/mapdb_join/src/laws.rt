@@ -1,6 +1,6 @@
 //! What holds of the order, the union and a clash, for every type that merges. Each function does
 //! nothing when it runs: its contract is the law.
-ghost use Rattle.std.specs.Prelude.{◌≡◌, true, List, [], ◌∷◌, Some, IfOk, IfSome, MatchOption};
+ghost use Rattle.std.specs.Prelude.{◌≡◌, true, List, [], ◌∷◌, Some};
 ghost use Rattle.std.specs.List.{Contains};
 ghost use Rattle.std.specs.Map.{lookup};
 ghost use Rattle.std.specs.BTreeMap.{is_at};
@@ -9,7 +9,6 @@ ghost use Rattle.mapdb_join.specs.Entries.{has_under, IsChangedAt, ChangesAlone}
 
 use crate::exact::Exact;
 use crate::merge::Merge;
-use std::alloc::AllocError;
 
 /// A value covers itself, what is covered by what is covered is covered, and two values that cover
 /// each other have the same atoms.
@@ -88,21 +87,3 @@ pub fn union_under_key<K: Ord + Exact, V: Merge>()
         lookup (is_at (K.cmp k)) old ≡ Some v → IsChangedAt K.cmp old new k w →
         IsUnion V.has v part w → IsUnion (has_under K.cmp V.has) old ((k, part) ∷ []) new }
 {}
-
-/// The least value that covers both, or `None` where no value does. The only error is want of
-/// memory.
-pub fn least_above<T: Merge>(a: &T, b: &T) -> Result<Option<T>, AllocError>
-    ensures bound { IfOk result (λ o. IfSome o (λ c. IsLeastUpperBound T.has a.now b.now c)) }
-    ensures none { IfOk result (λ o. MatchOption o
-        (Clashes T.has T.excludes a.now b.now)
-        (λ _. Clashes T.has T.excludes a.now b.now → ⊥)) }
-{
-    if let Some(_) = a.clash(b) {
-        return Ok(None);
-    }
-    let mut bound = a.copy()?;
-    match bound.merge(b) {
-        Ok(()) => Ok(Some(bound)),
-        Err(_) => Err(AllocError),
-    }
-}

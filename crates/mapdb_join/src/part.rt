@@ -158,7 +158,11 @@ impl<K: Ord + Exact, V: MergePart> MergePart for JoinMap<K, V> {
         merge_at(&mut self.map, self.alloc, part.0, part.1)
     }
 
-    fn of_part(alloc: Global, part: (K, V::Part)) -> Result<JoinMap<K, V>, AllocError> {
+    /// The map holds the part's key and no other, also where the part has no atoms.
+    fn of_part(alloc: Global, part: (K, V::Part)) -> Result<JoinMap<K, V>, AllocError>
+        ensures same { IfOk result (λ v. IsSame (has_under K.cmp V.has) ((part.0, V.alone part.1) ∷ []) v) }
+        ensures keys { IfOk result (λ v. IsSame (holds_key K.cmp) ((part.0, V.alone part.1) ∷ []) v) }
+    {
         let mut map = BTreeMap::new(alloc);
         let value = V::of_part(alloc, part.1)?;
         map.insert(part.0, value)?;

@@ -28,7 +28,7 @@ fn merges_twice<T: Merge>(value: &mut T, other: &T) -> Result<bool, AllocError> 
 // Whether two values have a least bound, which covers both.
 fn is_bounded<T: Merge>(a: &T, b: &T) -> Result<bool, AllocError> {
     laws::bound_exactly_where_no_clash(a, b);
-    match laws::least_above(a, b)? {
+    match least_above(a, b)? {
         Some(bound) => Ok(bound.covers(a) && bound.covers(b)),
         None => Ok(false),
     }

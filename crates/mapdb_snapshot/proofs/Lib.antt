@@ -17,3 +17,4 @@ pub mod CutsComeBack
 pub mod NamesComeBack
 pub mod AtomsComeBack
 pub mod TextsComeBack
+pub mod LimitLemmas

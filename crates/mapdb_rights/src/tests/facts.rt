@@ -6,6 +6,7 @@ use mapdb_fpage::{Fpage, Rights};
 use std::test::Fail;
 
 mod merging;
+mod operations;
 mod plain;
 mod runs;
 
