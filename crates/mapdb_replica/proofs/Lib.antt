@@ -28,3 +28,4 @@ pub mod FormedIssues
 pub mod Bounding
 pub mod CutCopies
 mod SeenRecords
+pub mod LimitLemmas
