@@ -12,7 +12,7 @@ module _ {X : Type 0} where
   set_here (z ∷ xs) zero x y there = refl
   set_here (z ∷ xs) (suc i) x y there = set_here xs i x y there
 
-  set_apart : (xs : List X) (i j : ℕ) (y : X) → i ≢ j → slice_get (slice_set xs i y) j ≡ slice_get xs j
+  pub set_apart : (xs : List X) (i j : ℕ) (y : X) → i ≢ j → slice_get (slice_set xs i y) j ≡ slice_get xs j
   set_apart [] i j y apart = refl
   set_apart (z ∷ xs) zero zero y apart = absurd (apart refl)
   set_apart (z ∷ xs) zero (suc j) y apart = refl

@@ -1,5 +1,5 @@
 -- Runs in which one copy alone issues commands, and hears from no other.
-use Rattle.std.specs.Prelude.{◌≡◌, ◌<◌, ℕ, List, map, slice_get, Some}
+use Rattle.std.specs.Prelude.{◌≡◌, ◌≢◌, ◌<◌, ℕ, List, [], ◌∷◌, slice_get, Option, Some, None}
 use Rattle.mapdb_replica.specs.Replica.{Log, empty}
 use Rattle.mapdb_replica.specs.declared.commands.Command.{Command}
 use Rattle.mapdb_tree.specs.Tree.{Tree, first_tree}
@@ -7,25 +7,43 @@ use Rattle.mapdb_tree.specs.declared.nodes.Page.{Page}
 use Rattle.mapdb_sequential.specs.Plain.{AreCommands, IsPlain}
 use Rattle.mapdb_sequential.specs.Sequential.{HasNode}
 use Rattle.mapdb_cluster.specs.Net.{new_net}
-use Rattle.mapdb_cluster.specs.Run.{Move, after, all_done}
+use Rattle.mapdb_cluster.specs.Run.{Happens, Loads, Move, after}
 use Rattle.mapdb_cluster.specs.declared.events.Event.{Event}
-use Rattle.mapdb_cluster.specs.declared.events.Event.TheVariants.{Issue}
+use Rattle.mapdb_cluster.specs.declared.events.Event.TheVariants.{Deliver, Issue, Join, Send}
 
--- the commands, issued at one processor
-abbrev pub issue_at : ℕ → Command → Event
-issue_at at command = Issue at command
+-- A command is issued at this processor, with memory for all of it; a copy may send; what others hear is not looked at.
+abbrev pub LeavesAlone : ℕ → Event → Option ℕ → Type 0
+LeavesAlone at (Issue to command) memory = (to ≡ at) × (memory ≡ None)
+LeavesAlone at (Send from first end) memory = Unit {0}
+LeavesAlone at (Deliver message to) memory = to ≢ at
+LeavesAlone at (Join into from) memory = into ≢ at
 
--- with memory for all
-abbrev pub issued_at : ℕ → List Command → List Move
-issued_at at commands = all_done (map (issue_at at) commands)
+-- all commands are issued at this processor, and its copy hears from no other, nor from outside
+abbrev pub IsAlone : ℕ → List Move → Type 0
+IsAlone at [] = Unit {0}
+IsAlone at (Happens event memory ∷ moves) = LeavesAlone at event memory × IsAlone at moves
+IsAlone at (Loads to ops memory ∷ moves) = (to ≢ at) × IsAlone at moves
+
+-- the command of an event, if it is one, before others
+abbrev pub with_command : Event → List Command → List Command
+with_command (Issue to command) rest = command ∷ rest
+with_command (Send from first end) rest = rest
+with_command (Deliver message to) rest = rest
+with_command (Join into from) rest = rest
+
+-- the commands of the moves, in order
+abbrev pub commands_of : List Move → List Command
+commands_of [] = []
+commands_of (Happens event memory ∷ moves) = with_command event (commands_of moves)
+commands_of (Loads to ops memory ∷ moves) = commands_of moves
 
 -- The copy is that of the run, and has the tree's nodes and nothing else.
-pub record IsTheTree (count at : ℕ) (commands : List Command) (log : Log) (T : Tree) : Type 0 where
-  pub there : slice_get (after (new_net count) (issued_at at commands)).copies at ≡ Some log
+pub record IsTheTree (count at : ℕ) (moves : List Move) (log : Log) (T : Tree) : Type 0 where
+  pub there : slice_get (after (new_net count) moves).copies at ≡ Some log
   pub nodes : (page : Page) → HasNode log T page
 
--- Commands issued at one processor alone, into empty destinations, give exactly the manual's tree.
+-- Commands issued at one processor alone, into empty destinations, give exactly the manual's tree, whatever other copies hear of them.
 abbrev pub RunsAloneAreTrees : Type 0
 RunsAloneAreTrees =
-    (count at : ℕ) (commands : List Command) (log : Log) (T : Tree) → at < count → AreCommands commands → IsPlain (empty at) first_tree commands log T
-    → IsTheTree count at commands log T
+    (count at : ℕ) (moves : List Move) (log : Log) (T : Tree) → at < count → IsAlone at moves → AreCommands (commands_of moves)
+    → IsPlain (empty at) first_tree (commands_of moves) log T → IsTheTree count at moves log T
