@@ -144,6 +144,39 @@ fn seat_left_out(rt: HostRuntime) -> Result<(), Fail> {
     expect_one(&rt, rt.alloc(), node, one, Closed::Mismatch)
 }
 
+/// How many operations the copy holds that a node hands back with a fault.
+fn handed_back(node: Node, seats: Vec<Seat>) -> Option<u32> {
+    match node.close(seats) {
+        Ok(_) => None,
+        Err(CloseFault::StrangeSeat(copy)) => Some(copy.log_len()),
+        Err(CloseFault::Mismatch(copy)) => Some(copy.log_len()),
+    }
+}
+
+#[test]
+fn mismatch_hands_the_copy_back(rt: HostRuntime) -> Result<(), Fail> {
+    let node = Node::new(rt.alloc(), 3);
+    let Ok(mut seat) = node.seat(&rt) else {
+        return Err(Fail::from("no seat"));
+    };
+    assert!(rt; map_and_read(&rt, &node, &mut seat, 7, 1));
+    expect(&rt, handed_back(node, Vec::new(rt.alloc())), Some(1));
+    Ok(())
+}
+
+#[test]
+fn strange_seat_hands_the_copy_back(rt: HostRuntime) -> Result<(), Fail> {
+    let node = Node::new(rt.alloc(), 3);
+    let Some((_another, mut one, strange)) = two_seats(&rt, rt.alloc()) else {
+        return Err(Fail::from("no seats"));
+    };
+    assert!(rt; node.seat(&rt).is_ok());
+    assert!(rt; map_and_read(&rt, &node, &mut one, 7, 1));
+    let seats = Vec::from_array(rt.alloc(), [strange])?;
+    expect(&rt, handed_back(node, seats), Some(1));
+    Ok(())
+}
+
 #[test]
 fn close_leaves_entries_out(rt: HostRuntime) -> Result<(), Fail> {
     let Some((node, mut one, mut other)) = two_seats(&rt, rt.alloc()) else {
