@@ -7,3 +7,5 @@ pub mod SameCopies
 pub mod Numbering
 pub mod Finished
 pub mod MetFaults
+pub mod LimitLemmas
+pub mod MoreCalls

@@ -6,3 +6,4 @@ pub mod Reports
 pub mod Counts
 pub mod Finishing
 pub mod Workers
+pub mod Calls

@@ -1,6 +1,6 @@
 //! Processors that run their scripts side by side, and tell each other what they issue.
 
-ghost use Rattle.std.specs.Prelude.{◌≡◌, ◌<◌, ◌≤◌, ◌↔◌, length, map, IsTrue, IfErr, IfOk, OnOk};
+ghost use Rattle.std.specs.Prelude.{◌≡◌, ◌⊎◌, [], ◌<◌, ◌≤◌, ◌↔◌, length, map, IsTrue, IfErr, IfOk, OnOk};
 ghost use Rattle.mapdb_exchange.specs.Counts.{IsCount};
 ghost use Rattle.mapdb_exchange.specs.Reports.{AreParts, HoldSame};
 
@@ -141,7 +141,10 @@ fn add_receiving<'a, R: Wait>(
 }
 
 /// A seat at a node.
-fn seat_at<R: Wait>(rt: &R, node: &Node) -> Result<Seat, WorkFault> {
+fn seat_at<R: Wait>(rt: &R, node: &Node) -> Result<Seat, WorkFault>
+    ensures new { IfOk result (λ seat. seat.calls ≡ []) }
+    ensures fault { IfErr result (λ fault. fault ≡ WorkFault.Node NodeFault.Seats) }
+{
     match node.seat(rt) {
         Ok(seat) => Ok(seat),
         Err(_) => Err(WorkFault::Node(NodeFault::Seats)),
@@ -182,12 +185,12 @@ fn next_seats(
 }
 
 /// Closes a node with its seats.
-fn part_of(
-    alloc: Global,
-    node: Node,
-    commands: usize,
-    seats: Vec<Seat>,
-) -> Result<Part, WorkFault> {
+fn part_of(alloc: Global, node: Node, commands: usize, seats: Vec<Seat>) -> Result<Part, WorkFault>
+    ensures processor { IfOk result (λ part. part.processor ≡ node) }
+    ensures commands { IfOk result (λ part. part.commands ≡ commands) }
+    ensures seats { IfOk result (λ part. part.seats.items ≡ map (λ s. s.number) seats.items) }
+    ensures fault { IfErr result (λ fault. (fault ≡ WorkFault.Memory) ⊎ (fault ≡ WorkFault.Node NodeFault.Seats)) }
+{
     let mut numbers = Vec::with_capacity(alloc, seats.len())?;
     for seat in &seats {
         numbers.push(seat.number())?;

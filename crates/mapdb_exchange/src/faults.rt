@@ -89,6 +89,11 @@ impl<T: Drop> From<AllocFailed<T>> for WorkFault {
 }
 
 impl From<CallFault> for WorkFault {
+    ghost use Rattle.std.specs.Prelude.{◌≡◌};
+    ghost use Rattle.mapdb_exchange.specs.Calls.{called_fault};
+
+    ghost from_gives = { λ fault worker. worker ≡ called_fault fault };
+
     fn from(fault: CallFault) -> WorkFault {
         match fault {
             CallFault::JournalFull => WorkFault::Node(NodeFault::JournalFull),

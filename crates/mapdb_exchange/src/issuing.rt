@@ -1,6 +1,7 @@
 //! The issuing worker of a processor: it runs the script, and puts what is issued on the links.
 
-ghost use Rattle.std.specs.Prelude.{◌≡◌, map, IfOk};
+ghost use Rattle.std.specs.Prelude.{◌≡◌, ◌++◌, length, map, IfOk, OnOk};
+ghost use Rattle.mapdb_exchange.specs.Calls.{commands_in, issued_in};
 ghost use Rattle.mapdb_exchange.specs.Finishing.{AreFinished, sent_on};
 
 use crate::faults::{NodeFault, WorkFault};
@@ -22,7 +23,7 @@ pub(crate) struct Issuing<'a> {
 }
 
 /// Runs the commands in order through the gate. After each that issued something it puts one batch on each link, and at
-/// the end Fin.
+/// the end Fin. At Ok the seat's commands are those of the script, in order.
 pub(crate) fn issue_all<R: Wait, G: Gate>(
     rt: &R,
     alloc: Global,
@@ -32,7 +33,8 @@ pub(crate) fn issue_all<R: Wait, G: Gate>(
     seat: &mut Seat,
     links: Vec<BatchSender>,
 ) -> Result<Vec<Outgoing>, WorkFault>
-    ensures { IfOk result (λ ends. AreFinished (map sent_on links.items) ends.items) }
+    ensures finished { IfOk result (λ ends. AreFinished (map sent_on links.items) ends.items) }
+    ensures commands { OnOk result (commands_in seat.new.calls ≡ commands_in seat.old.calls ++ script.now) }
 {
     let mut links = links;
     let mut first = 0u32;
@@ -51,7 +53,9 @@ pub(crate) fn issue_all<R: Wait, G: Gate>(
 }
 
 /// How many operations a command issued, by its reply.
-fn issued_count(reply: &NodeReply) -> Result<u32, WorkFault> {
+fn issued_count(reply: &NodeReply) -> Result<u32, WorkFault>
+    ensures { result ≡ issued_in reply.now }
+{
     match *reply {
         NodeReply::Issued { first: _, count } => Ok(count),
         NodeReply::Revoked(count) => Ok(count),
@@ -64,6 +68,7 @@ fn issued_count(reply: &NodeReply) -> Result<u32, WorkFault> {
 }
 
 /// Reads so many own operations of a copy, from a place on.
+#[tactic(auto, using(crate::proofs::MoreCalls::own_is_none))]
 fn own_ops<R: Wait>(
     rt: &R,
     alloc: Global,
@@ -71,7 +76,10 @@ fn own_ops<R: Wait>(
     seat: &mut Seat,
     first: u32,
     count: u32,
-) -> Result<Vec<Op>, WorkFault> {
+) -> Result<Vec<Op>, WorkFault>
+    ensures commands { OnOk result (commands_in seat.new.calls ≡ commands_in seat.old.calls) }
+    ensures count { IfOk result (λ ops. length ops.items ≡ count) }
+{
     let mut ops = Vec::new(alloc);
     for step in 0..count {
         let place = first

@@ -1,6 +1,6 @@
 //! Starts all workers side by side, and waits for all.
 
-ghost use Rattle.std.specs.Prelude.{◌≡◌, ◌⊎◌, ◌++◌, [], IfErr, OnOk};
+ghost use Rattle.std.specs.Prelude.{◌≡◌, ◌⊎◌, ◌++◌, [], IfErr, IfOk, OnOk, map};
 ghost use Rattle.mapdb_exchange.specs.Faults.{IsFirst, listed};
 ghost use Rattle.mapdb_exchange.specs.Workers.{faults_of};
 
@@ -53,7 +53,7 @@ fn join_all<R: Threads>(
 }
 
 /// The seats of the workers where none ended early, else the fault that is told.
-#[tactic(auto, using(crate::proofs::MetFaults::met_more))]
+#[tactic(auto, using(crate::proofs::MetFaults::met_more, crate::proofs::MetFaults::seats_more))]
 fn seats_of(
     alloc: Global,
     ended: Vec<Ended>,
@@ -61,6 +61,7 @@ fn seats_of(
 ) -> Result<Vec<Seat>, WorkFault>
     ensures first { IfErr result (λ fault. (fault ≡ WorkFault.Memory) ⊎ IsFirst (listed unstarted ++ faults_of ended.items) fault) }
     ensures none { OnOk result (listed unstarted ++ faults_of ended.items ≡ []) }
+    ensures seats { IfOk result (λ seats. seats.items ≡ map (λ e. e.seat) ended.items) }
 {
     let mut seats = Vec::with_capacity(alloc, ended.len())?;
     let mut faults = Vec::new(alloc);

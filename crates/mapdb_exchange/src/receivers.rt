@@ -1,6 +1,7 @@
 //! Ends of links that receive the batches of a processor, which are taken into the copy of another.
 
-ghost use Rattle.std.specs.Prelude.{◌≡◌, ◌&&◌, ◌==◌, [], IfOk};
+ghost use Rattle.std.specs.Prelude.{◌≡◌, ◌&&◌, ◌==◌, [], ◌++◌, IfOk, OnOk};
+ghost use Rattle.mapdb_exchange.specs.Calls.{held_in, ops_in, taken_in};
 ghost use Rattle.mapdb_exchange.specs.Links.{AreBatches, AreNumbered};
 
 use crate::faults::{NodeFault, WorkFault};
@@ -32,15 +33,16 @@ impl BatchReceiver {
     }
 
     /// Receives until Fin, and takes each operation of each batch into the node. What was received then is batches of this
-    /// link, numbered from 0 on, and Fin.
-    #[tactic(auto, using(crate::proofs::Numbering::batches_put, crate::proofs::Numbering::fin_put))]
+    /// link, numbered from 0 on, and Fin; and what was taken from the seat and is held is what these batches carried, in order.
+    #[tactic(auto, using(crate::proofs::Numbering::batches_put, crate::proofs::Numbering::fin_put, crate::proofs::MoreCalls::batch_taken, crate::proofs::MoreCalls::fin_taken))]
     pub(crate) fn receive_all<R: Wait>(
         self,
         rt: &R,
         node: &Node,
         seat: &mut Seat,
     ) -> Result<Incoming, WorkFault>
-        ensures { IfOk result (λ end. AreNumbered self.from self.to 0 end.received) }
+        ensures numbered { IfOk result (λ end. AreNumbered self.from self.to 0 end.received) }
+        ensures taken { IfOk result (λ end. held_in seat.new.calls ≡ held_in seat.old.calls ++ ops_in end.received) }
     {
         let BatchReceiver { from, to, mut end } = self;
         let mut next = 0u32;
@@ -68,16 +70,26 @@ fn is_expected(batch: &Batch, from: u8, to: u8, index: u32) -> bool
     batch.from == from && batch.to == to && batch.index == index
 }
 
-/// Takes operations into a node, one by one.
-fn take_all<R: Wait>(rt: &R, node: &Node, seat: &mut Seat, ops: &[Op]) -> Result<(), WorkFault> {
+/// Takes operations into a node, one by one. At Ok these were taken from the seat, in order, and are held.
+fn take_all<R: Wait>(rt: &R, node: &Node, seat: &mut Seat, ops: &[Op]) -> Result<(), WorkFault>
+    ensures { OnOk result (held_in seat.new.calls ≡ held_in seat.old.calls ++ ops.now) }
+{
     for op in ops {
-        match node.call(rt, seat, NodeEvent::Take(*op))? {
-            NodeReply::Taken(_) => {}
-            NodeReply::TakeRefused(TakeFault::Memory { .. }) => return Err(WorkFault::Memory),
-            NodeReply::TakeRefused(why) => return Err(WorkFault::Node(NodeFault::Refused(why))),
-            // No other reply follows a Take, which no contract of a lock can say.
-            _ => return Err(WorkFault::Link),
-        }
+        let reply = node.call(rt, seat, NodeEvent::Take(*op))?;
+        see_taken(&reply)?;
     }
     Ok(())
+}
+
+/// Sees to it that an operation is held, by the reply to its Take.
+fn see_taken(reply: &NodeReply) -> Result<(), WorkFault>
+    ensures { result ≡ taken_in reply.now }
+{
+    match *reply {
+        NodeReply::Taken(_) => Ok(()),
+        NodeReply::TakeRefused(TakeFault::Memory { .. }) => Err(WorkFault::Memory),
+        NodeReply::TakeRefused(why) => Err(WorkFault::Node(NodeFault::Refused(why))),
+        // No other reply follows a Take, which no contract of a lock can say.
+        _ => Err(WorkFault::Link),
+    }
 }

@@ -1,6 +1,10 @@
-use Rattle.std.proofs.Common.{◌≡◌, map}
+use Rattle.std.proofs.Common.{◌≡◌, ◌++◌, map, take}
+use Rattle.mapdb_exchange.specs.Calls.{commands_in}
 use Rattle.mapdb_exchange.specs.Finishing.{sent_on}
 use Rattle.mapdb_exchange.proofs.issuing.issue_all.Given as goal
 
 abbrev pub invariant-loop-command : goal.invariant-loop-command
-invariant-loop-command g l = map sent_on l.links.items ≡ map sent_on l.fn.links.items
+invariant-loop-command g l = record {
+  links : map sent_on l.links.items ≡ map sent_on l.fn.links.items;
+  commands : commands_in l.seat.calls ≡ commands_in l.fn.seat.calls ++ take l.command-index l.script;
+}

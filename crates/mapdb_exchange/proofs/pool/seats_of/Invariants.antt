@@ -1,7 +1,10 @@
-use Rattle.std.proofs.Common.{◌≡◌, ◌++◌}
+use Rattle.std.proofs.Common.{◌≡◌, ◌++◌, map}
 use Rattle.mapdb_exchange.specs.Faults.{listed}
 use Rattle.mapdb_exchange.specs.Workers.{faults_of}
 use Rattle.mapdb_exchange.proofs.pool.seats_of.Given as goal
 
 abbrev pub invariant-loop-seat : goal.invariant-loop-seat
-invariant-loop-seat l = l.faults.items ≡ listed l.fn.unstarted ++ faults_of l.yielded
+invariant-loop-seat l = record {
+  faults : l.faults.items ≡ listed l.fn.unstarted ++ faults_of l.yielded;
+  seats : l.seats.items ≡ map (λ e. e.seat) l.yielded;
+}

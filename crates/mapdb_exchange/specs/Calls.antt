@@ -1,0 +1,80 @@
+-- What workers ask of a node and what it replies, by the calls from their seats.
+use Rattle.std.specs.Prelude.{ℕ, List, [], ◌∷◌, ◌++◌, Result, Ok, Err}
+use Rattle.mapdb_facts.specs.declared.operations.Op.{Op}
+use Rattle.mapdb_replica.specs.declared.commands.Command.{Command}
+use Rattle.mapdb_replica.specs.declared.faults.IssueFault.{IssueFault}
+use Rattle.mapdb_replica.specs.declared.faults.IssueFault.TheVariants as issue
+use Rattle.mapdb_replica.specs.declared.faults.TakeFault.{TakeFault}
+use Rattle.mapdb_replica.specs.declared.faults.TakeFault.TheVariants as take
+use Rattle.mapdb_node.specs.declared.events.NodeEvent.{NodeEvent}
+use Rattle.mapdb_node.specs.declared.events.NodeEvent.TheVariants.{Issue, Take}
+use Rattle.mapdb_node.specs.declared.events.NodeReply.{NodeReply}
+use Rattle.mapdb_node.specs.declared.events.NodeReply.TheVariants as reply
+use Rattle.mapdb_node.specs.declared.seats.Call.{Call}
+use Rattle.mapdb_node.specs.declared.sharing.CallFault.{CallFault}
+use Rattle.mapdb_node.specs.declared.sharing.CallFault.TheVariants as call
+use Rattle.mapdb_exchange.specs.declared.faults.NodeFault.TheVariants.{JournalFull, Refused}
+use Rattle.mapdb_exchange.specs.declared.faults.WorkFault.{WorkFault}
+use Rattle.mapdb_exchange.specs.declared.faults.WorkFault.TheVariants.{Gate, Link, Memory, Node}
+use Rattle.mapdb_exchange.specs.declared.messages.Message.{Message}
+use Rattle.mapdb_exchange.specs.declared.messages.Message.TheVariants.{Batch, Fin}
+
+-- the worker's fault where a call was not done
+abbrev pub called_fault : CallFault → WorkFault
+called_fault call.JournalFull = Node JournalFull
+called_fault call.Memory = Memory
+called_fault call.Gate = Gate
+
+-- how many operations a refused command issued
+abbrev pub refused_issue : IssueFault → Result ℕ WorkFault
+refused_issue (issue.Memory count) = Err Memory
+refused_issue why = Ok 0
+
+-- how many operations a command issued, by its reply; no other reply follows a command
+abbrev pub issued_in : NodeReply → Result ℕ WorkFault
+issued_in (reply.Issued first count) = Ok count
+issued_in (reply.Revoked count) = Ok count
+issued_in reply.Ended = Ok 1
+issued_in (reply.IssueRefused why) = refused_issue why
+issued_in answer = Err Link
+
+-- the worker's fault where an operation was refused
+abbrev pub refused_take : TakeFault → WorkFault
+refused_take (take.Memory count) = Memory
+refused_take why = Node (Refused why)
+
+-- whether an operation is held, by the reply to a Take; no other reply follows it
+abbrev pub taken_in : NodeReply → Result (Unit {0}) WorkFault
+taken_in (reply.Taken new) = Ok tt
+taken_in (reply.TakeRefused why) = Err (refused_take why)
+taken_in answer = Err Link
+
+-- the operation of a Take, if it is held, before others
+abbrev pub with_held : NodeEvent → NodeReply → List Op → List Op
+with_held (Take op) (reply.Taken new) rest = op ∷ rest
+with_held event answer rest = rest
+
+-- the operations that were taken and are held, in order
+abbrev pub held_in : List Call → List Op
+held_in [] = []
+held_in (c ∷ cs) = with_held c.event c.reply (held_in cs)
+
+-- the command of an event, if it is one, before others
+abbrev pub with_command : NodeEvent → List Command → List Command
+with_command (Issue command) rest = command ∷ rest
+with_command event rest = rest
+
+-- the commands among calls, in order
+abbrev pub commands_in : List Call → List Command
+commands_in [] = []
+commands_in (c ∷ cs) = with_command c.event (commands_in cs)
+
+-- the operations of a message, before others
+abbrev pub with_ops : Message → List Op → List Op
+with_ops (Batch batch) rest = batch.ops ++ rest
+with_ops Fin rest = rest
+
+-- the operations that messages carry, in order
+abbrev pub ops_in : List Message → List Op
+ops_in [] = []
+ops_in (m ∷ ms) = with_ops m (ops_in ms)
