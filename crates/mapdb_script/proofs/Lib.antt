@@ -4,3 +4,4 @@ pub mod ClusterLemmas
 pub mod ExchangeLemmas
 pub mod ReplayLemmas
 pub mod ThreadingLemmas
+pub mod ScriptRuns

@@ -6,3 +6,4 @@ pub mod Script
 pub mod Run
 pub mod Threading
 pub mod States
+pub mod Moves

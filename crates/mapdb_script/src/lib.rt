@@ -8,6 +8,7 @@
 mod cluster;
 mod engine;
 mod exchange;
+pub mod laws;
 mod messages;
 mod replay;
 mod replies;

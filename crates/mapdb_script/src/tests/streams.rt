@@ -76,6 +76,53 @@ fn with_room(alloc: Global, room: usize, fails: bool) -> Narrow {
     }
 }
 
+/// A stream that is interrupted at its first call, and works from then on.
+#[derive(Drop)]
+struct Interrupted {
+    was_called: bool,
+}
+
+impl Interrupted {
+    /// Whether this call is the first.
+    fn call(&mut self) -> io::Result<()> {
+        if self.was_called {
+            return Ok(());
+        }
+        self.was_called = true;
+        Err(io::Error::from(ErrorKind::Interrupted))
+    }
+}
+
+impl Read for Interrupted {
+    fn read(&mut self, _buf: &mut [u8]) -> io::Result<usize> {
+        self.call()?;
+        Ok(0)
+    }
+}
+
+impl Write for Interrupted {
+    fn write(&mut self, buf: &[u8]) -> io::Result<usize> {
+        self.call()?;
+        Ok(buf.len())
+    }
+
+    fn flush(&mut self) -> io::Result<()> {
+        Ok(())
+    }
+}
+
+#[test]
+fn an_interrupted_call_is_a_failure(rt: HostRuntime) -> Result<(), Fail> {
+    let mut written = Vec::new(rt.alloc());
+    let mut reader = FromRead::new(Interrupted { was_called: false });
+    let unread = run(rt.alloc(), &mut reader, &mut ToWrite::new(&mut written));
+    assert_eq!(rt; unread, Err(ScriptFault::Read));
+    let mut writer = ToWrite::new(Interrupted { was_called: false });
+    let unwritten = run(rt.alloc(), &mut FromRead::new(SCRIPT), &mut writer);
+    assert_eq!(rt; unwritten, Err(ScriptFault::Write));
+    Ok(())
+}
+
 #[test]
 fn a_failing_read_stops_the_run(rt: HostRuntime) -> Result<(), Fail> {
     let bytes = SCRIPT;
