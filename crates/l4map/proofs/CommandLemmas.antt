@@ -2,7 +2,7 @@
 use Rattle.std.proofs.Common.{rules, inl, inr, ◌⊎◌, [], ◌∷◌, true≢false, ◌≡◌, ◌∙◌, refl, sym, ap, List, Option, Some, None, false, option_map, true, not, ◌&&◌, Bool}
 use Rattle.std.specs.Prelude.{unwrap_or}
 use Rattle.std.specs.Option.{option_and_then}
-use Rattle.clap.specs.Words.{AddsArg, AddsSubcommand, App, Shape, with_subcommand, Row, Rule, Text, app_of, rule_of, shape_of, with_rule, HasKind, HasMatchesOf, Kinds, fault_of, is_simple, is_simple_and_free, kind_of, subcommand_of, first_of, first_value, found_of, rows_of, subcommand_name_of, subcommand_rows, subcommand_rows_of}
+use Rattle.clap.specs.Words.{AddsArg, AddsSubcommand, App, Shape, with_subcommand, Row, Rule, Text, app_of, rule_of, shape_of, with_rule, HasKind, HasMatchesOf, Kinds, fault_of, is_simple, is_simple_and_free, kind_of, subcommand_of, first_of, first_value, rows_of, subcommand_name_of, subcommand_rows_of}
 use Rattle.clap.specs.declared.builder.arg.Arg.{Arg}
 use Rattle.clap.specs.declared.builder.command.Command.{Command}
 use Rattle.clap.specs.declared.builder.command.Command.TheViews.{out-Command}
@@ -14,7 +14,6 @@ use Rattle.clap.specs.declared.error.kind.ErrorKind.TheVariants.{OutOfMemory}
 use Rattle.clap.proofs.OnLiterals.{clap_on_literals}
 use Rattle.clap.proofs.WalkLemmas.{first_value-rows}
 use Rattle.l4map.specs.Commands.{asked, job_in, job_named, l4map}
-use Rattle.l4map.specs.declared.commands.Job.{Job}
 
 -- one map after another
 fused : {X Y Z : Type 0} (f : X → Y) (h : Y → Z) (o : Option X) → option_map (λ x. h (f x)) o ≡ option_map h (option_map f o)

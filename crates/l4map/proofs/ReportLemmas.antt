@@ -3,6 +3,7 @@ use Rattle.std.proofs.Common.{inl, inr}
 use Rattle.std.specs.Prelude.{◌≡◌, ◌<◌, ℕ, List, length, refl, slice_index_or, Result, Ok, Err}
 use Rattle.mapdb_facts.specs.State.{SameAtoms}
 use Rattle.mapdb_replica.specs.declared.commands.Command.{Command}
+use Rattle.mapdb_exchange.specs.Counts.{IsCount}
 use Rattle.mapdb_exchange.specs.Reports.{AreParts, HoldSame}
 use Rattle.mapdb_exchange.specs.declared.reports.Part.{Part}
 use Rattle.mapdb_lines.specs.declared.fault.LineFault.{LineFault}
@@ -19,22 +20,22 @@ all_alike parts j k d e same one other atom =
     (λ h. (same k e other atom).1 ((same j d one atom).0 h), λ h. (same j d one atom).1 ((same k e other atom).0 h))
 
 -- what a report's text that was written tells
-pub report_told : (result : Result (Unit {0}) ThreadsFault) (input front : List ℕ) (scripts : List (List Command)) (parts : List Part) (Over : Type 0)
-    → scripts_of input ≡ Ok scripts → Over → AreParts scripts parts → HoldSame parts → IsWritten result (report_text parts) front
-    → TellsThreads result input front Over
-report_told (Ok done) input front scripts parts Over is over are same written = (over, (scripts, parts, is, are, same, written))
-report_told (Err (Script script.Write)) input front scripts parts Over is over are same written =
-    (report_text parts, inl (scripts, parts, is, are, same, refl), written)
-report_told (Err (Script script.Memory)) input front scripts parts Over is over are same written = written
-report_told (Err (Script script.Read)) input front scripts parts Over is over are same written = absurd written
-report_told (Err (Script (script.Line number f))) input front scripts parts Over is over are same written = absurd written
-report_told (Err (Run why)) input front scripts parts Over is over are same written = absurd written
+pub report_told : (result : Result (Unit {0}) ThreadsFault) (input front : List ℕ) (scripts : List (List Command)) (parts : List Part) (capacity : ℕ) (Over : Type 0)
+    → scripts_of input ≡ Ok scripts → Over → IsCount (length scripts) capacity → AreParts scripts parts → HoldSame parts → IsWritten result (report_text parts) front
+    → TellsThreads capacity result input front Over
+report_told (Ok done) input front scripts parts capacity Over is over few are same written = (over, (scripts, parts, is, few, are, same, written))
+report_told (Err (Script script.Write)) input front scripts parts capacity Over is over few are same written =
+    (report_text parts, inl (scripts, parts, is, few, are, same, refl), written)
+report_told (Err (Script script.Memory)) input front scripts parts capacity Over is over few are same written = written
+report_told (Err (Script script.Read)) input front scripts parts capacity Over is over few are same written = absurd written
+report_told (Err (Script (script.Line number f))) input front scripts parts capacity Over is over few are same written = absurd written
+report_told (Err (Run why)) input front scripts parts capacity Over is over few are same written = absurd written
 
 -- what a fault's line that was not written tells
-pub fault_told : (why : ThreadsFault) (input front : List ℕ) (number : ℕ) (f : LineFault) (Over : Type 0)
-    → scripts_of input ≡ Err (number, f) → IsWritten (Err why) (fault_line number f) front → TellsThreads (Err why) input front Over
-fault_told (Script script.Write) input front number f Over is written = (fault_line number f, inr (number, f, is, refl), written)
-fault_told (Script script.Memory) input front number f Over is written = written
-fault_told (Script script.Read) input front number f Over is written = absurd written
-fault_told (Script (script.Line other g)) input front number f Over is written = absurd written
-fault_told (Run why) input front number f Over is written = absurd written
+pub fault_told : (why : ThreadsFault) (input front : List ℕ) (number : ℕ) (f : LineFault) (capacity : ℕ) (Over : Type 0)
+    → scripts_of input ≡ Err (number, f) → IsWritten (Err why) (fault_line number f) front → TellsThreads capacity (Err why) input front Over
+fault_told (Script script.Write) input front number f capacity Over is written = (fault_line number f, inr (number, f, is, refl), written)
+fault_told (Script script.Memory) input front number f capacity Over is written = written
+fault_told (Script script.Read) input front number f capacity Over is written = absurd written
+fault_told (Script (script.Line other g)) input front number f capacity Over is written = absurd written
+fault_told (Run why) input front number f capacity Over is written = absurd written

@@ -1,5 +1,5 @@
 -- The statuses of the program, and what it tells on the errors.
-use Rattle.std.specs.Prelude.{◌≡◌, ◌⊎◌, ℕ, ⊤, List, [], Bool, true, false, Option, Result, Ok, Err, codes}
+use Rattle.std.specs.Prelude.{◌≡◌, ◌⊎◌, ◌↔◌, ℕ, List, [], Bool, true, false, Option, Result, Ok, Err, codes}
 use Rattle.std.specs.Io.KnownBytes.{Appends}
 use Rattle.mapdb_lines.specs.Fronts.{BeginsWith}
 use Rattle.mapdb_lines.specs.declared.fault.Summary.{Summary}
@@ -44,8 +44,7 @@ abbrev pub Refuses : ℕ → Option (List ℕ) → Option (List ℕ) → Bool �
 Refuses status old new has_failed =
     ((status ≡ 2) × ((text : List ℕ) × IsTold old new has_failed text)) ⊎ WantsMemory status old new has_failed
 
--- Where a run blames the reader or the writer, that one has failed.
+-- A run blames the reader or the writer exactly where that one has failed.
 abbrev pub BlamesFailed : Result Summary ScriptFault → Bool → Bool → Type 0
-BlamesFailed (Err fault.Read) reader_failed writer_failed = reader_failed ≡ true
-BlamesFailed (Err fault.Write) reader_failed writer_failed = writer_failed ≡ true
-BlamesFailed outcome reader_failed writer_failed = ⊤
+BlamesFailed outcome reader_failed writer_failed =
+    ((outcome ≡ Err fault.Read) ↔ (reader_failed ≡ true)) × ((outcome ≡ Err fault.Write) ↔ (writer_failed ≡ true))

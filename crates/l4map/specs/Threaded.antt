@@ -1,6 +1,7 @@
 -- What a script in threads writes, and how it ends.
-use Rattle.std.specs.Prelude.{◌≡◌, ◌⊎◌, ⊤, ℕ, Bool, true, List, [], ◌++◌, Result, Ok, Err, codes, decimal, flat_map, length}
+use Rattle.std.specs.Prelude.{◌≡◌, ◌⊎◌, ◌↔◌, ℕ, Bool, true, List, [], ◌++◌, Result, Ok, Err, codes, decimal, flat_map, length}
 use Rattle.mapdb_replica.specs.declared.commands.Command.{Command}
+use Rattle.mapdb_exchange.specs.Counts.{IsCount}
 use Rattle.mapdb_exchange.specs.Reports.{AreParts, HoldSame}
 use Rattle.mapdb_exchange.specs.declared.faults.RunFault.{RunFault}
 use Rattle.mapdb_exchange.specs.declared.faults.RunFault.TheVariants as run
@@ -28,17 +29,20 @@ processor_line part = reply_line (processor_text part)
 abbrev pub report_text : List Part → List ℕ
 report_text parts = flat_map processor_line parts ++ reply_line (same_text true)
 
--- the text of a report on the scripts of the input
-abbrev pub IsReport : List ℕ → List ℕ → Type 0
-IsReport input text =
-    (scripts : List (List Command)) × (parts : List Part) × (scripts_of input ≡ Ok scripts) × AreParts scripts parts × HoldSame parts
-    × (text ≡ report_text parts)
+-- the text of a report on the scripts of the input, over links of this capacity
+abbrev pub IsReport : ℕ → List ℕ → List ℕ → Type 0
+IsReport capacity input text =
+    (scripts : List (List Command)) × (parts : List Part) × (scripts_of input ≡ Ok scripts) × IsCount (length scripts) capacity
+    × AreParts scripts parts × HoldSame parts × (text ≡ report_text parts)
 
 -- the line that tells the fault of the input's first faulty line
 abbrev pub IsFaultLine : List ℕ → List ℕ → Type 0
 IsFaultLine input text = (number : ℕ) × (f : _) × (scripts_of input ≡ Err (number, f)) × (text ≡ fault_line number f)
 
--- the faults of a writer, and of a want of memory
+-- the faults of a reader, of a writer, and of a want of memory
+abbrev pub read_failed : ThreadsFault
+read_failed = Script script.Read
+
 abbrev pub write_failed : ThreadsFault
 write_failed = Script script.Write
 
@@ -55,24 +59,25 @@ IsWritten (Err (Script (script.Line number f))) whole front = ⊥
 IsWritten (Err (Run why)) whole front = ⊥
 
 -- What was written for an input of which this was read; `Over` says that the reader is over. At a faulty line the reader is
--- over, or no further bytes would change the answer. Nothing is written where the exchange gives no report.
-abbrev pub TellsThreads : Result (Unit {0}) ThreadsFault → List ℕ → List ℕ → Type 0 → Type 0
-TellsThreads (Ok done) input text Over = Over × IsReport input text
-TellsThreads (Err (Script (script.Line number f))) input text Over =
+-- over, or no further bytes would change the answer. Nothing is written where the exchange gives no report; the count is at fault
+-- exactly where there are none or too many scripts.
+abbrev pub TellsThreads : ℕ → Result (Unit {0}) ThreadsFault → List ℕ → List ℕ → Type 0 → Type 0
+TellsThreads capacity (Ok done) input text Over = Over × IsReport capacity input text
+TellsThreads capacity (Err (Script (script.Line number f))) input text Over =
     (scripts_of input ≡ Err (number, f)) × (text ≡ fault_line number f)
     × (Over ⊎ ((more : List ℕ) → scripts_of (input ++ more) ≡ scripts_of input))
-TellsThreads (Err (Script script.Read)) input text Over = text ≡ []
-TellsThreads (Err (Script script.Write)) input text Over =
-    (whole : List ℕ) × (IsReport input whole ⊎ IsFaultLine input whole) × BeginsWith whole text
-TellsThreads (Err (Script script.Memory)) input text Over = text ≡ []
-TellsThreads (Err (Run why)) input text Over =
-    Over × ((scripts : List (List Command)) × (scripts_of input ≡ Ok scripts)) × (text ≡ [])
+TellsThreads capacity (Err (Script script.Read)) input text Over = text ≡ []
+TellsThreads capacity (Err (Script script.Write)) input text Over =
+    (whole : List ℕ) × (IsReport capacity input whole ⊎ IsFaultLine input whole) × BeginsWith whole text
+TellsThreads capacity (Err (Script script.Memory)) input text Over = text ≡ []
+TellsThreads capacity (Err (Run why)) input text Over =
+    Over × ((scripts : List (List Command)) × (scripts_of input ≡ Ok scripts) × (why ≡ run.BadCount ↔ (IsCount (length scripts) capacity → ⊥)))
+    × (text ≡ [])
 
--- Where the reader or the writer is blamed, that one has failed.
+-- The reader or the writer is blamed exactly where that one has failed.
 abbrev pub BlamesThreads : Result (Unit {0}) ThreadsFault → Bool → Bool → Type 0
-BlamesThreads (Err (Script script.Read)) reader_failed writer_failed = reader_failed ≡ true
-BlamesThreads (Err (Script script.Write)) reader_failed writer_failed = writer_failed ≡ true
-BlamesThreads outcome reader_failed writer_failed = ⊤
+BlamesThreads outcome reader_failed writer_failed =
+    ((outcome ≡ Err read_failed) ↔ (reader_failed ≡ true)) × ((outcome ≡ Err write_failed) ↔ (writer_failed ≡ true))
 
 -- the status of a run that gave no report
 abbrev pub run_status : RunFault → ℕ

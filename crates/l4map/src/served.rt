@@ -125,7 +125,7 @@ fn serve_threads<T: Threads + Wait + Sync, R: Source, W: Sink, E: Sink>(
     ensures { (outcome : Result (Unit {0}) ThreadsFault) × (input text : List ℕ)
         × Consumes (R.left reader.old) (R.left reader.new) input
         × Appends (W.written writer.old) (W.written writer.new) text
-        × TellsThreads outcome input text (IsOver (R.has_ended reader.new) (R.left reader.new))
+        × TellsThreads capacity outcome input text (IsOver (R.has_ended reader.new) (R.left reader.new))
         × BlamesThreads outcome (R.has_failed reader.new) (W.has_failed writer.new)
         × (result ≡ threads_status outcome)
         × IsTold (E.written errors.old) (E.written errors.new) (E.has_failed errors.new) (threads_message outcome) }
@@ -168,7 +168,7 @@ pub fn serve<T: AllocGlobal + Threads + Wait + Sync, S: AsStr, R: Source, W: Sin
         ⊎ ((outcome : Result (Unit {0}) ThreadsFault) × (input text : List ℕ)
         × Consumes (R.left reader.old) (R.left reader.new) input
         × Appends (W.written writer.old) (W.written writer.new) text
-        × TellsThreads outcome input text (IsOver (R.has_ended reader.new) (R.left reader.new))
+        × TellsThreads capacity outcome input text (IsOver (R.has_ended reader.new) (R.left reader.new))
         × BlamesThreads outcome (R.has_failed reader.new) (W.has_failed writer.new)
         × (result ≡ threads_status outcome)
         × IsTold (E.written errors.old) (E.written errors.new) (E.has_failed errors.new) (threads_message outcome)) }

@@ -1,13 +1,13 @@
 //! Scripts whose commands run in threads.
 
-ghost use Rattle.std.specs.Prelude.{◌≡◌, ◌++◌, ℕ, List, Ok, Err, false, true, IfOk, OnOk, string_bytes};
+ghost use Rattle.std.specs.Prelude.{◌≡◌, ◌++◌, ◌⊎◌, ℕ, List, Ok, Err, false, true, IfOk, OnOk, string_bytes};
 ghost use Rattle.std.specs.Io.KnownBytes.{Appends, Consumes};
 ghost use Rattle.mapdb_exchange.specs.Reports.{HoldSame};
 ghost use Rattle.mapdb_facts.specs.State.{SameAtoms};
 ghost use Rattle.mapdb_script.specs.Cluster.{reply_line};
 ghost use Rattle.mapdb_script.specs.Run.{IsOver};
 ghost use Rattle.mapdb_script.specs.Script.{fault_line};
-ghost use Rattle.l4map.specs.Threaded.{BlamesThreads, IsWritten, TellsThreads, processor_text, report_text, write_failed};
+ghost use Rattle.l4map.specs.Threaded.{BlamesThreads, IsWritten, TellsThreads, processor_text, read_failed, report_text, write_failed};
 
 use mapdb_exchange::{Part, RunFault};
 use mapdb_lines::{LineFault, ScriptFault, Sink, Source, write_all};
@@ -96,6 +96,8 @@ fn report_text(alloc: Global, parts: &[Part]) -> Result<String, AllocError>
 fn write_text<W: Sink>(writer: &mut W, text: &str) -> Result<(), ThreadsFault>
     ensures told { (front : List ℕ) × Appends (W.written writer.old) (W.written writer.new) front × IsWritten result text.now front }
     ensures write { result ≡ Err write_failed → W.has_failed writer.new ≡ true }
+    ensures works { (result ≡ Err write_failed) ⊎ (W.has_failed writer.new ≡ W.has_failed writer.old) }
+    ensures unread { result ≡ Err read_failed → ⊥ }
 {
     match write_all(writer, text.as_bytes()) {
         Ok(()) => Ok(()),
@@ -108,6 +110,8 @@ fn write_report<W: Sink>(alloc: Global, parts: &[Part], writer: &mut W) -> Resul
     requires { HoldSame parts.now }
     ensures told { (front : List ℕ) × Appends (W.written writer.old) (W.written writer.new) front × IsWritten result (report_text parts.now) front }
     ensures write { result ≡ Err write_failed → W.has_failed writer.new ≡ true }
+    ensures works { (result ≡ Err write_failed) ⊎ (W.has_failed writer.new ≡ W.has_failed writer.old) }
+    ensures unread { result ≡ Err read_failed → ⊥ }
 {
     let text = report_text(alloc, parts)?;
     write_text(writer, text.as_str())
@@ -122,6 +126,8 @@ fn write_fault<W: Sink>(
 ) -> Result<(), ThreadsFault>
     ensures told { (front : List ℕ) × Appends (W.written writer.old) (W.written writer.new) front × IsWritten result (fault_line number fault) front }
     ensures write { result ≡ Err write_failed → W.has_failed writer.new ≡ true }
+    ensures works { (result ≡ Err write_failed) ⊎ (W.has_failed writer.new ≡ W.has_failed writer.old) }
+    ensures unread { result ≡ Err read_failed → ⊥ }
 {
     let text = fault_text(alloc, number, fault)?;
     write_text(writer, text.as_str())
@@ -141,7 +147,7 @@ pub fn run_threads<T: Threads + Wait + Sync, R: Source, W: Sink>(
     requires writer_works { W.has_failed writer.old ≡ false }
     ensures told { (input text : List ℕ) × Consumes (R.left reader.old) (R.left reader.new) input
         × Appends (W.written writer.old) (W.written writer.new) text
-        × TellsThreads result input text (IsOver (R.has_ended reader.new) (R.left reader.new)) }
+        × TellsThreads capacity result input text (IsOver (R.has_ended reader.new) (R.left reader.new)) }
     ensures blames { BlamesThreads result (R.has_failed reader.new) (W.has_failed writer.new) }
 {
     let scripts = match thread_scripts(alloc, reader) {

@@ -2,7 +2,7 @@ use Rattle.std.proofs.Common.{rules, ap, refl, ◌≡◌, ◌∙◌, codes}
 use Rattle.std.proofs.lemmas.Result.{IfOk-weaker}
 use Rattle.clap.specs.Words.{App, app_of, with_subcommand}
 use Rattle.clap.specs.Simple.{new_shape}
-use Rattle.l4map.specs.Commands.{l4map, program, threads}
+use Rattle.l4map.specs.Commands.{program, threads}
 use Rattle.l4map.proofs.CommandLemmas.{app_with_subcommand}
 use Rattle.l4map.proofs.commands.command.Goals as goal
 

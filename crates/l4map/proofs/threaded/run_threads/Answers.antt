@@ -1,10 +1,15 @@
-use Rattle.std.proofs.Common.{rules, ◌≡◌, List, Err, subst}
+use Rattle.std.proofs.Common.{rules, ◌≡◌, ℕ, List, [], Err, refl, subst, sym}
+use Rattle.std.specs.Prelude.{◌↔◌}
+use Rattle.std.proofs.lemmas.List.{length-map}
 use Rattle.std.proofs.lemmas.Result.{err_from_is_err_and}
+use Rattle.mapdb_exchange.specs.Counts.{IsCount}
+use Rattle.mapdb_exchange.specs.declared.faults.RunFault.TheVariants.{BadCount}
 use Rattle.mapdb_exchange.specs.declared.reports.Part.{Part}
 use Rattle.mapdb_lines.specs.declared.fault.ScriptFault.{ScriptFault}
 use Rattle.mapdb_lines.specs.declared.fault.ScriptFault.TheVariants.{Line}
 use Rattle.mapdb_script.specs.Run.{IsOver}
 use Rattle.mapdb_script.specs.Threading.{TellsScripts}
+use Rattle.mapdb_script.proofs.RunLemmas.{Appends-none}
 use Rattle.l4map.specs.Threaded.{IsWritten, report_text}
 use Rattle.l4map.proofs.ReportLemmas.{fault_told, report_told}
 use Rattle.l4map.proofs.threaded.run_threads.Goals as goal
@@ -22,17 +27,25 @@ returns-in_err-write_fault-in-Err-Line-clause-told g c =
       wrote.0,
       read.1,
       wrote.1,
-      rw (p.1, p.2) (fault_told c.in_err-write_fault-in-Err-Line.field-0.0 read.0 wrote.0 c.in-Err-Line.number c.in-Err-Line.fault over line.0 wrote.2),
+      rw (p.1, p.2) (fault_told c.in_err-write_fault-in-Err-Line.field-0.0 read.0 wrote.0 c.in-Err-Line.number c.in-Err-Line.fault c.args.capacity over line.0 wrote.2),
     )
 
 pub returns-in-Ok-run-clause-told : goal.returns-in-Ok-run-clause-told
 returns-in-Ok-run-clause-told g c =
     let read = c.in-Ok.ensures.told in
     let wrote = c.write_report.ensures.told in
+    let few = subst (λ (n : ℕ). IsCount n c.args.capacity) (sym (length-map _ _)) c.in-Ok-run.ensures.count in
     let written = subst (λ (parts : List Part). IsWritten c.write_report.result (report_text parts) wrote.0) c.as_slice.ensures.value wrote.2 in (
       read.0,
       wrote.0,
       read.1,
       wrote.1,
-      report_told c.write_report.result read.0 wrote.0 _ c.in-Ok-run.report.parts.items _ read.2.0 read.2.1 c.in-Ok-run.ensures.parts c.in-Ok-run.ensures.same written,
+      report_told c.write_report.result read.0 wrote.0 _ c.in-Ok-run.report.parts.items c.args.capacity _ read.2.0 read.2.1 few c.in-Ok-run.ensures.parts c.in-Ok-run.ensures.same written,
     )
+
+pub returns-in-Err-run-clause-told : goal.returns-in-Err-run-clause-told
+returns-in-Err-run-clause-told g c =
+    let read = c.in-Ok.ensures.told in
+    let why = c.in-Err-run.why in
+    let exactly = subst (λ (n : ℕ). why ≡ BadCount ↔ (IsCount n c.args.capacity → ⊥)) (sym (length-map _ _)) c.in-Err-run.ensures.bad in
+    (read.0, [], read.1, Appends-none _, (read.2.1, (_, read.2.0, exactly), refl))
