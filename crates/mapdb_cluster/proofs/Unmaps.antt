@@ -8,7 +8,7 @@ use Rattle.mapdb_replica.specs.Unmap.{unmap_candidates}
 use Rattle.mapdb_replica.specs.declared.commands.Command.TheVariants.{Unmap}
 use Rattle.mapdb_replica.proofs.NewsAtoms.{news_give}
 use Rattle.mapdb_sequential.proofs.Issued.{outcome_ops}
-use Rattle.mapdb_sequential.proofs.Reaching.{unmap_reaches}
+use Rattle.mapdb_replica.proofs.Reaching.{unmap_reaches}
 use Rattle.mapdb_cluster.specs.Net.{new_net}
 use Rattle.mapdb_cluster.specs.Run.{after}
 use Rattle.mapdb_cluster.specs.Unmaps.{IssuersHaveTaken, UnmapsReach}

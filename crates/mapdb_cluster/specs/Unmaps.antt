@@ -5,19 +5,15 @@ use Rattle.mapdb_fpage.specs.RightSets.{includes}
 use Rattle.mapdb_fpage.specs.declared.right_sets.Right.{Right}
 use Rattle.mapdb_fpage.specs.declared.right_sets.Rights.{Rights}
 use Rattle.mapdb_facts.specs.Names.{processor_limit}
-use Rattle.mapdb_facts.specs.State.{Covers, state_of}
+use Rattle.mapdb_facts.specs.State.{state_of}
 use Rattle.mapdb_facts.specs.declared.names.Space.{Space}
 use Rattle.mapdb_facts.specs.declared.operations.Op.{Op}
 use Rattle.mapdb_replica.specs.Replica.{Log, with_issued}
-use Rattle.mapdb_replica.specs.Unmap.{unmap_candidates, unmap_outcome}
-use Rattle.mapdb_sequential.specs.Reaching.{IsReached}
+use Rattle.mapdb_replica.specs.Unmap.{unmap_outcome}
+use Rattle.mapdb_replica.specs.Reaching.{HasTaken, IsReached}
 use Rattle.mapdb_cluster.specs.Honest.{AreEvents}
 use Rattle.mapdb_cluster.specs.Net.{new_net}
 use Rattle.mapdb_cluster.specs.Run.{Move, after}
-
--- the copy has taken the Unmap: it holds all that the candidates say, also what the issuer held already
-abbrev pub HasTaken : Log → Log → Space → Place → Rights → Bool → Type 0
-HasTaken copy issuer space part rights flush = Covers copy.ops (unmap_candidates issuer.ops space (Some part) rights flush)
 
 -- Two copies of an honest run: the issuer as it stands after the first events, and any copy after later ones.
 pub record AreOfRun (count : ℕ) (before later : List Move) (issuer copy : Log) : Type 0 where
@@ -31,11 +27,11 @@ pub record AreOfRun (count : ℕ) (before later : List Move) (issuer copy : Log)
 abbrev pub UnmapsReach : Type 0
 UnmapsReach =
     (count : ℕ) (before later : List Move) (issuer copy : Log) → AreOfRun count before later issuer copy
-    → (space : Space) (part : Place) (rights : Rights) (flush : Bool) → IsPlace part → HasTaken copy issuer space part rights flush
+    → (space : Space) (part : Place) (rights : Rights) (flush : Bool) → IsPlace part → HasTaken copy.ops issuer.ops space (Some part) rights flush
     → (right : Right) → includes rights right ≡ true → IsReached issuer.ops space part flush (state_of copy.ops) right
 
 -- the issuer itself has taken the Unmap, once it is issued
 abbrev pub IssuersHaveTaken : Type 0
 IssuersHaveTaken =
     (issuer : Log) (space : Space) (part : Place) (rights : Rights) (flush : Bool) (ops : List Op)
-    → unmap_outcome issuer space (Some part) rights flush ≡ Ok ops → HasTaken (with_issued issuer ops) issuer space part rights flush
+    → unmap_outcome issuer space (Some part) rights flush ≡ Ok ops → HasTaken (with_issued issuer ops).ops issuer.ops space (Some part) rights flush

@@ -21,6 +21,7 @@ use Rattle.mapdb_facts.specs.declared.operations.Record.{Record}
 use Rattle.mapdb_facts.proofs.Listed.{records_of-facts}
 use Rattle.mapdb_facts.proofs.Formed.{all_formed-put}
 use Rattle.mapdb_facts.proofs.Joins.{state_of-put}
+use Rattle.mapdb_replica.specs.Forms.{HavePlaces}
 use Rattle.mapdb_replica.specs.Keeping.{IsKept}
 use Rattle.mapdb_replica.specs.Replica.{most_operations}
 
@@ -104,12 +105,13 @@ sound-put ops op sound fits r s in_r in_s same =
     by_parts (inr a) (inr b) = both op (last op a) (last_s op b)
 
 pub kept-put : (processor : ℕ) (ops own own' : List Op) (facts : Facts) (op : Op) (facts' : Facts) → IsKept processor ops own facts → added (state_of ops) op ≡ Ok true → length ops < most_operations
-    → length own' ≤ length ops + 1 → state_of_facts facts' ≡ join (state_of_facts facts) (said op) → IsKept processor (ops ++ op ∷ []) own' facts'
-kept-put processor ops own own' facts op facts' kept fits room few is =
+    → length own' ≤ length ops + 1 → state_of_facts facts' ≡ join (state_of_facts facts) (said op) → HavePlaces (op ∷ []) → IsKept processor (ops ++ op ∷ []) own' facts'
+kept-put processor ops own own' facts op facts' kept fits room few is place =
     let more : length (ops ++ op ∷ []) ≡ length ops + 1 = length-append ops (op ∷ []) in
     record {
       issuer = kept.issuer;
       formed = all_formed-put ops op kept.formed (added_formed (state_of ops) op true fits);
+      places = λ r h. elim (atom_append ops (op ∷ []) (Rec r) h) [ inl before ↦ kept.places r before | inr last ↦ place r last ];
       sound = sound-put ops op kept.sound fits;
       few = omega arith;
       few_own = omega arith;
@@ -118,11 +120,11 @@ kept-put processor ops own own' facts op facts' kept fits room few is =
 
 -- where nothing was added, what is kept is kept
 pub kept-either : {E : Type 0} → (r : Result (Unit {0}) E) (processor : ℕ) (ops ops' own : List Op) (facts facts' : Facts) (op : Op) → IsKept processor ops own facts → added (state_of ops) op ≡ Ok true → length ops < most_operations
-    → OnOk r (ops' ≡ ops ++ op ∷ []) → OnOk r (state_of_facts facts' ≡ join (state_of_facts facts) (said op)) → OnErr r (ops' ≡ ops) → OnErr r (facts' ≡ facts) → IsKept processor ops' own facts'
-kept-either (Ok u) processor ops ops' own facts facts' op kept fits room listed is same same_facts =
+    → OnOk r (ops' ≡ ops ++ op ∷ []) → OnOk r (state_of_facts facts' ≡ join (state_of_facts facts) (said op)) → OnErr r (ops' ≡ ops) → OnErr r (facts' ≡ facts) → HavePlaces (op ∷ []) → IsKept processor ops' own facts'
+kept-either (Ok u) processor ops ops' own facts facts' op kept fits room listed is same same_facts place =
     let few = kept.few_own in
-    subst (λ (xs : List Op). IsKept processor xs own facts') (sym listed) (kept-put processor ops own own facts op facts' kept fits room (omega arith) is)
-kept-either (Err e) processor ops ops' own facts facts' op kept fits room listed is same same_facts =
+    subst (λ (xs : List Op). IsKept processor xs own facts') (sym listed) (kept-put processor ops own own facts op facts' kept fits room (omega arith) is place)
+kept-either (Err e) processor ops ops' own facts facts' op kept fits room listed is same same_facts place =
     subst (λ (xs : List Op). IsKept processor xs own facts') (sym same) (subst (λ (f : Facts). IsKept processor ops own f) (sym same_facts) kept)
 
 -- the facts' records are those of the operations

@@ -29,3 +29,11 @@ pub mod Bounding
 pub mod CutCopies
 mod SeenRecords
 pub mod LimitLemmas
+pub mod RightLemmas
+pub mod AtomLists
+pub mod HolderLists
+pub mod OpForms
+pub mod SharedPlaces
+pub mod TakenPages
+pub mod UnmapAtoms
+pub mod Reaching

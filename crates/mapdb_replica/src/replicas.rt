@@ -3,6 +3,7 @@
 ghost use Rattle.std.specs.Prelude.{◌≡◌, ◌++◌, ◌∷◌, [], OnOk, OnErr};
 ghost use Rattle.mapdb_facts.specs.Facts.{state_of_facts};
 ghost use Rattle.mapdb_facts.specs.State.{join, said};
+ghost use Rattle.mapdb_replica.specs.Forms.{HavePlaces};
 ghost use Rattle.mapdb_replica.specs.Keeping.{MayAdd};
 
 use crate::faults::{GiveFault, MOST_OPERATIONS};
@@ -38,6 +39,15 @@ impl Model for Replica {
     ghost invariant = { λ r. IsKept r.processor r.ops.keys r.own.items r.facts };
 }
 
+/// A record's place is a place. This does nothing: it tells proofs so.
+fn prove_place(op: &Op)
+    ensures { HavePlaces (op.now ∷ []) }
+{
+    if let Op::Born(record) = op {
+        let _order = record.place.order();
+    }
+}
+
 /// Adds an operation that is new to the list and to what the list says.
 fn add_op(ops: &mut IndexSet<Op>, facts: &mut Facts, op: &Op) -> Result<(), AllocError>
     requires { MayAdd ops.old.keys facts.old op.now }
@@ -45,7 +55,9 @@ fn add_op(ops: &mut IndexSet<Op>, facts: &mut Facts, op: &Op) -> Result<(), Allo
     ensures said { OnOk result (state_of_facts facts.new ≡ join (state_of_facts facts.old) (said op.now)) }
     ensures kept { OnErr result (ops.new.keys ≡ ops.old.keys) }
     ensures kept_facts { OnErr result (facts.new ≡ facts.old) }
+    ensures place { HavePlaces (op.now ∷ []) }
 {
+    prove_place(op);
     ops.reserve(1)?;
     if facts.add(*op).is_err() {
         return Err(AllocError);
@@ -61,6 +73,7 @@ impl Replica {
     ghost use Rattle.mapdb_facts.specs.Facts.{state_of_facts};
     ghost use Rattle.mapdb_facts.specs.State.{state_of};
     ghost use Rattle.mapdb_facts.specs.WellFormed.{all_formed};
+    ghost use Rattle.mapdb_replica.specs.Forms.{HavePlaces};
     ghost use Rattle.mapdb_replica.specs.Giving.{IsNotGiven, given};
     ghost use Rattle.mapdb_replica.specs.Pairs.{page_rights};
     ghost use Rattle.mapdb_replica.specs.Replica.{empty, with_issued};
@@ -95,9 +108,10 @@ impl Replica {
         &self.facts
     }
 
-    /// Each operation that is held is well-formed. This does nothing: it tells proofs so.
+    /// Each operation that is held is well-formed, and the records have places. This does nothing: it tells proofs so.
     pub fn prove_formed(&self)
-        ensures { all_formed self.now.ops ≡ true }
+        ensures formed { all_formed self.now.ops ≡ true }
+        ensures places { HavePlaces self.now.ops }
     {
         let _ops = &self.ops;
     }

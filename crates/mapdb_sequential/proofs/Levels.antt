@@ -9,7 +9,8 @@ use Rattle.mapdb_facts.specs.Names.{is_first_space, same_space}
 use Rattle.mapdb_facts.specs.declared.names.Space.{Space}
 use Rattle.mapdb_tree.specs.declared.nodes.Page.{Page}
 use Rattle.mapdb_sequential.proofs.Linking.{no_path, same_path}
-use Rattle.mapdb_sequential.proofs.PathTrees.{PathNode, PathTree, first_path_tree, is_path_reached, number_behind}
+use Rattle.mapdb_replica.proofs.SharedPlaces.{number_behind}
+use Rattle.mapdb_sequential.proofs.PathTrees.{PathNode, PathTree, first_path_tree, is_path_reached}
 use Rattle.mapdb_sequential.proofs.PathTrees.{path_after_map, path_handed, path_unmapped, path_with}
 use Rattle.mapdb_sequential.proofs.Walking.{IsLow}
 

@@ -15,7 +15,7 @@ use Rattle.mapdb_replica.specs.Replica.{empty}
 use Rattle.mapdb_sequential.proofs.Linking.{AreLinked, IsLinked, IsShort, nearest, no_path, same_path, short, short_of}
 use Rattle.mapdb_sequential.proofs.PathTrees.{PathNode, PathTree, goes_through, is_path_reached}
 use Rattle.mapdb_sequential.proofs.PathTrees.{path_after_end, path_after_unmap, path_unmapped, path_with}
-use Rattle.mapdb_sequential.proofs.RightLemmas.{some_here, some_of}
+use Rattle.mapdb_replica.proofs.RightLemmas.{some_here, some_of}
 use Rattle.mapdb_tree.specs.Tree.{IsBelow, IsEnded, IsReached, IsUnmapped, LeadsTo, Tree, is_among, lessened, node_with}
 use Rattle.mapdb_tree.specs.declared.nodes.Node.{Node}
 use Rattle.mapdb_tree.specs.declared.nodes.Page.{Page}

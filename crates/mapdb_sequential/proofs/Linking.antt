@@ -10,9 +10,10 @@ use Rattle.mapdb_fpage.specs.declared.right_sets.Right.{Right}
 use Rattle.mapdb_fpage.specs.declared.right_sets.Rights.{Rights}
 use Rattle.mapdb_facts.specs.Names.{is_first_space, same_space}
 use Rattle.mapdb_facts.specs.declared.names.Space.{Space}
-use Rattle.mapdb_sequential.proofs.PathTrees.{PathNode, PathTree, first_path_tree, is_path_taken, number_behind}
+use Rattle.mapdb_replica.proofs.SharedPlaces.{number_behind}
+use Rattle.mapdb_sequential.proofs.PathTrees.{PathNode, PathTree, first_path_tree, is_path_taken}
 use Rattle.mapdb_sequential.proofs.PathTrees.{path_after_map, path_brought, path_handed}
-use Rattle.mapdb_sequential.proofs.RightLemmas.{common_left}
+use Rattle.mapdb_replica.proofs.RightLemmas.{common_left}
 use Rattle.mapdb_tree.specs.Steps.{AreSame}
 use Rattle.mapdb_tree.specs.Tree.{Tree, are_both, brought, first_tree, handed, mapped, page_behind}
 use Rattle.mapdb_tree.specs.declared.nodes.Node.{Node}

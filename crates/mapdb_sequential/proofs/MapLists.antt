@@ -32,12 +32,13 @@ use Rattle.mapdb_replica.specs.declared.pieces.Piece.{Piece}
 use Rattle.mapdb_rights.proofs.Backed.{lies_in-right}
 use Rattle.mapdb_rights.specs.PageRights.{is_into}
 use Rattle.mapdb_rights.specs.Right.{has_right, rights_at}
-use Rattle.mapdb_sequential.proofs.Listing.{held_holder, holder_held, place_at}
-use Rattle.mapdb_sequential.proofs.Lists.{among_filter_map, filter_map_among}
-use Rattle.mapdb_sequential.proofs.PathTrees.{number_behind}
-use Rattle.mapdb_sequential.proofs.Places.{IsShared, lies_place, moved_holds, place_at-known, place_at-place, share, shared}
-use Rattle.mapdb_sequential.proofs.RightLemmas.{common_left, some_of}
-use Rattle.mapdb_sequential.proofs.StateSteps.{IsFormed, IsKnown, IsMappedState, IsPiece}
+use Rattle.mapdb_replica.proofs.HolderLists.{held_holder, holder_held, place_at}
+use Rattle.mapdb_replica.proofs.AtomLists.{among_filter_map, filter_map_among}
+use Rattle.mapdb_replica.proofs.SharedPlaces.{number_behind}
+use Rattle.mapdb_replica.proofs.SharedPlaces.{IsShared, lies_place, moved_holds, place_at-known, place_at-place, share, shared}
+use Rattle.mapdb_replica.proofs.RightLemmas.{common_left, some_of}
+use Rattle.mapdb_replica.proofs.OpForms.{IsFormed, IsKnown}
+use Rattle.mapdb_sequential.proofs.StateSteps.{IsMappedState, IsPiece}
 
 -- the greatest number of a record of a list
 abbrev greatest : List Op → ℕ

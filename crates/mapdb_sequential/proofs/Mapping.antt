@@ -19,11 +19,13 @@ use Rattle.mapdb_rights.proofs.Steps.{earlier, has_right-record, has_right-root}
 use Rattle.mapdb_rights.proofs.Walk.{rights_at-outside, same_rights}
 use Rattle.mapdb_rights.specs.PageRights.{is_into, is_record_into, lies_in, lies_in_record}
 use Rattle.mapdb_rights.specs.Right.{allows, has_right, reaches, rights_at, source_page}
-use Rattle.mapdb_sequential.proofs.PathTrees.{PathNode, PathTree, is_path_taken, number_behind}
+use Rattle.mapdb_replica.proofs.SharedPlaces.{number_behind}
+use Rattle.mapdb_sequential.proofs.PathTrees.{PathNode, PathTree, is_path_taken}
 use Rattle.mapdb_sequential.proofs.PathTrees.{path_after_map, path_brought, path_handed}
-use Rattle.mapdb_sequential.proofs.RightLemmas.{empty_from, none_of}
+use Rattle.mapdb_replica.proofs.RightLemmas.{empty_from, none_of}
 use Rattle.mapdb_sequential.proofs.Showing.{ComesThrough, IsBare, IsHeldBy, Shows, ShowsAt}
-use Rattle.mapdb_sequential.proofs.StateSteps.{IsGrown, IsKnown, IsMappedState, IsPiece}
+use Rattle.mapdb_replica.proofs.OpForms.{IsKnown}
+use Rattle.mapdb_sequential.proofs.StateSteps.{IsGrown, IsMappedState, IsPiece}
 use Rattle.mapdb_tree.specs.declared.nodes.Page.{Page}
 
 module _ (S S' : State) (sender : Space) (source : Place) (receiver : Space) (target : Place) (rights : Rights) (grown : IsGrown S)

@@ -15,7 +15,7 @@ use Rattle.mapdb_rights.specs.PageRights.{HasPair}
 use Rattle.mapdb_rights.specs.Right.{rights_at}
 use Rattle.mapdb_rights.specs.Served.{IsServed}
 use Rattle.mapdb_sequential.proofs.PathTrees.{PathNode, path_answer}
-use Rattle.mapdb_sequential.proofs.RightLemmas.{none_of, some_here}
+use Rattle.mapdb_replica.proofs.RightLemmas.{none_of, some_here}
 use Rattle.mapdb_sequential.proofs.Showing.{IsBare, IsHeldBy, ShowsAt}
 use Rattle.mapdb_sequential.proofs.Unmapping.{frame_at-through}
 use Rattle.mapdb_tree.specs.declared.nodes.Page.{Page}

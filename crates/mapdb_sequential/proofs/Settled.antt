@@ -23,8 +23,10 @@ use Rattle.mapdb_replica.specs.declared.commands.Command.{Command}
 use Rattle.mapdb_replica.specs.declared.commands.Command.TheVariants.{End, Map, Unmap}
 use Rattle.mapdb_sequential.proofs.Issued.{candidates, carries, issued, state_of_issued}
 use Rattle.mapdb_sequential.proofs.MapLists.{map_cuts, new_whole}
-use Rattle.mapdb_sequential.proofs.StateSteps.{IsKept, IsKnown, IsSettled, IsTransfer}
-use Rattle.mapdb_sequential.proofs.UnmapLists.{only_cuts, unmap_targets}
+use Rattle.mapdb_replica.proofs.OpForms.{IsKnown}
+use Rattle.mapdb_sequential.proofs.StateSteps.{IsKept, IsSettled, IsTransfer}
+use Rattle.mapdb_replica.proofs.UnmapAtoms.{only_cuts}
+use Rattle.mapdb_sequential.proofs.UnmapLists.{unmap_targets}
 
 -- what is joined to a settled state
 known_more : (S T : State) (id : RecordId) → IsKnown S id → IsKnown (join S T) id

@@ -26,11 +26,13 @@ use Rattle.mapdb_sequential.proofs.LinkedUnmap.{short_end, short_unmap}
 use Rattle.mapdb_sequential.proofs.Linking.{IsShort, both_short, brought_short, short_map, short_same}
 use Rattle.mapdb_sequential.proofs.MapLists.{is_mapped}
 use Rattle.mapdb_sequential.proofs.Mapping.{shows_after_map}
-use Rattle.mapdb_sequential.proofs.PathTrees.{PathNode, PathTree, is_path_taken, number_behind}
+use Rattle.mapdb_replica.proofs.SharedPlaces.{number_behind}
+use Rattle.mapdb_sequential.proofs.PathTrees.{PathNode, PathTree, is_path_taken}
 use Rattle.mapdb_sequential.proofs.PathTrees.{path_after_end, path_after_map, path_after_unmap, path_brought, path_handed}
-use Rattle.mapdb_sequential.proofs.Places.{whole_holds}
+use Rattle.mapdb_replica.proofs.SharedPlaces.{whole_holds}
 use Rattle.mapdb_sequential.proofs.Showing.{Shows}
-use Rattle.mapdb_sequential.proofs.StateSteps.{IsEndedState, IsFormed, IsKept, IsTransfer}
+use Rattle.mapdb_replica.proofs.OpForms.{IsFormed}
+use Rattle.mapdb_sequential.proofs.StateSteps.{IsEndedState, IsKept, IsTransfer}
 use Rattle.mapdb_sequential.proofs.UnmapLists.{is_unmapped}
 use Rattle.mapdb_sequential.proofs.UnmapShown.{shows_after_unmap}
 use Rattle.mapdb_tree.specs.Steps.{AfterMap, AfterUnmap, AreSame, map_refusal, occupied_refusal}

@@ -18,7 +18,7 @@ use Rattle.mapdb_rights.proofs.Walk.{same_rights}
 use Rattle.mapdb_rights.specs.PageRights.{is_into, is_record_into, lies_in, lies_in_record}
 use Rattle.mapdb_rights.specs.Right.{allows, has_right, reaches, rights_at, source_page}
 use Rattle.mapdb_sequential.proofs.PathTrees.{PathNode, PathTree, is_path_reached, path_after_unmap, path_unmapped, path_with}
-use Rattle.mapdb_sequential.proofs.RightLemmas.{empty_from, none_of}
+use Rattle.mapdb_replica.proofs.RightLemmas.{empty_from, none_of}
 use Rattle.mapdb_sequential.proofs.Showing.{ComesThrough, IsBare, IsHeldBy, Shows, ShowsAt}
 use Rattle.mapdb_sequential.proofs.StateSteps.{IsTaken, IsUnmappedState}
 use Rattle.mapdb_sequential.proofs.Unmapping.{has_right-unmapped}

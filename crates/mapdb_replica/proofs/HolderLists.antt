@@ -15,7 +15,7 @@ use Rattle.mapdb_facts.specs.declared.operations.Record.{Record}
 use Rattle.mapdb_replica.specs.Issue.{holder_of, holders}
 use Rattle.mapdb_replica.specs.declared.pieces.Holder.{Holder}
 use Rattle.mapdb_rights.specs.PageRights.{is_into, is_record_into}
-use Rattle.mapdb_sequential.proofs.Lists.{among_append, among_left, among_right}
+use Rattle.mapdb_replica.proofs.AtomLists.{among_append, among_left, among_right}
 
 -- no record is named as the root is
 abbrev pub HasNoRoot : List Op → Type 0

@@ -1,11 +1,11 @@
 -- An Unmap reaches all that its issuer saw, and all below.
-use Rattle.std.specs.Prelude.{◌≡◌, ℕ, zero, suc, Bool, true, false, List, Some}
+use Rattle.std.specs.Prelude.{◌≡◌, ℕ, zero, suc, Bool, true, false, List, Option, Some}
 use Rattle.mapdb_fpage.specs.Place.{IsPlace, Place, holds}
 use Rattle.mapdb_fpage.specs.RightSets.{includes}
 use Rattle.mapdb_fpage.specs.declared.right_sets.Right.{Right}
 use Rattle.mapdb_fpage.specs.declared.right_sets.Rights.{Rights}
 use Rattle.mapdb_facts.specs.Names.{is_root}
-use Rattle.mapdb_facts.specs.State.{State, state_of}
+use Rattle.mapdb_facts.specs.State.{Covers, State, state_of}
 use Rattle.mapdb_facts.specs.WellFormed.{all_formed}
 use Rattle.mapdb_facts.specs.declared.names.RecordId.{RecordId}
 use Rattle.mapdb_facts.specs.declared.names.Space.{Space}
@@ -50,9 +50,19 @@ pub record IsReached (ops : List Op) (space : Space) (part : Place) (flush : Boo
   pub children : (id : RecordId) (child : Record) (page : ℕ) → SeesChild ops space part id child page → HasNoneBelow S id page right
   pub own : flush ≡ true → (id : RecordId) (page : ℕ) → SeesOwn ops space part id page → HasNoneBelow S id page right
 
--- every state that has what the Unmap's candidates take is reached
+-- every state that has what an Unmap of well-formed operations takes is reached
 abbrev pub UnmapReaches : Type 0
 UnmapReaches =
     (ops : List Op) (space : Space) (part : Place) (rights : Rights) (flush : Bool) → all_formed ops ≡ true → HavePlaces ops → IsPlace part
     → (S : State) → TakesAll S (unmap_candidates ops space (Some part) rights flush)
     → (right : Right) → includes rights right ≡ true → IsReached ops space part flush S right
+
+-- What an Unmap of these operations reaches: in every state that has what its candidates take, all that its issuer saw in the fpage.
+abbrev pub Reaches : List Op → Space → Option Place → Rights → Bool → Type 0
+Reaches ops space page rights flush =
+    (part : Place) → page ≡ Some part → (S : State) → TakesAll S (unmap_candidates ops space page rights flush)
+    → (right : Right) → includes rights right ≡ true → IsReached ops space part flush S right
+
+-- These operations say all that an Unmap takes that was issued over the others, also what was taken before it.
+abbrev pub HasTaken : List Op → List Op → Space → Option Place → Rights → Bool → Type 0
+HasTaken held ops space page rights flush = Covers held (unmap_candidates ops space page rights flush)

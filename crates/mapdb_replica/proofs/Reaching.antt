@@ -1,28 +1,39 @@
 -- An Unmap reaches all that its issuer saw.
-use Rattle.std.proofs.Common.{◌≡◌, ℕ, zero, suc, Bool, true, false, Some, refl, sym, subst, ◌∙◌, inl, inr}
-use Rattle.std.specs.Prelude.{◌&&◌, not}
+use Rattle.std.proofs.Common.{◌≡◌, ℕ, zero, suc, Bool, true, false, Some, Ok, Err, Result, refl, sym, subst, ◌∙◌, inl, inr, List, ◌++◌}
+use Rattle.std.specs.Prelude.{◌&&◌, not, None, Option, IfSome, OnOk}
 use Rattle.std.proofs.lemmas.Bool.{and_parts, cases_Bool, false≢true}
 use Rattle.mapdb_fpage.proofs.Booleans.{same_test}
-use Rattle.mapdb_fpage.specs.Place.{is_page}
-use Rattle.mapdb_fpage.specs.RightSets.{includes}
+use Rattle.mapdb_fpage.specs.Place.{IsPlace, Place, is_page}
+use Rattle.mapdb_fpage.specs.RightSets.{includes, is_empty}
 use Rattle.mapdb_fpage.specs.declared.right_sets.Right.{Right}
+use Rattle.mapdb_fpage.specs.declared.right_sets.Rights.{Rights}
 use Rattle.mapdb_facts.proofs.Atoms.{atom_kept}
 use Rattle.mapdb_facts.proofs.SameNames.{some_same}
+use Rattle.mapdb_facts.proofs.Joins.{atom_right}
 use Rattle.mapdb_facts.specs.Names.{is_root}
-use Rattle.mapdb_facts.specs.State.{Rev, State, state_of}
+use Rattle.mapdb_facts.specs.State.{HasAtom, Rev, State, state_of}
+use Rattle.mapdb_facts.specs.WellFormed.{all_formed}
 use Rattle.mapdb_facts.specs.declared.names.RecordId.{RecordId}
+use Rattle.mapdb_facts.specs.declared.names.Space.{Space}
+use Rattle.mapdb_facts.specs.declared.operations.Op.{Op}
 use Rattle.mapdb_facts.specs.declared.operations.Record.{Record}
-use Rattle.mapdb_replica.specs.Unmap.{unmap_candidates}
+use Rattle.mapdb_replica.proofs.NewsAtoms.{news_give}
+use Rattle.mapdb_replica.proofs.RightLemmas.{some_here}
+use Rattle.mapdb_replica.proofs.SoundIssues.{issued_news}
+use Rattle.mapdb_replica.specs.Forms.{HavePlaces}
+use Rattle.mapdb_replica.specs.Replica.{Issues, Log}
+use Rattle.mapdb_replica.specs.Unmap.{ended_refusal, unmap_candidates, unmap_outcome}
+use Rattle.mapdb_replica.specs.declared.faults.IssueFault.{IssueFault}
 use Rattle.mapdb_replica.specs.declared.pieces.Holder.{Holder}
 use Rattle.mapdb_rights.proofs.Backed.{backing}
 use Rattle.mapdb_rights.proofs.Steps.{has_right-root}
 use Rattle.mapdb_rights.specs.Right.{has_right, source_page}
-use Rattle.mapdb_sequential.proofs.Forms.{formed_has_form}
-use Rattle.mapdb_sequential.proofs.Places.{lies_place}
-use Rattle.mapdb_sequential.proofs.StateSteps.{IsFormed}
-use Rattle.mapdb_sequential.proofs.TakenPages.{IsTakenAt}
-use Rattle.mapdb_sequential.proofs.UnmapLists.{sound_cuts, take_unmap}
-use Rattle.mapdb_sequential.specs.Reaching.{ComesFrom, HasNoneBelow, UnmapReaches}
+use Rattle.mapdb_replica.proofs.OpForms.{formed_has_form}
+use Rattle.mapdb_replica.proofs.SharedPlaces.{lies_place}
+use Rattle.mapdb_replica.proofs.OpForms.{IsFormed}
+use Rattle.mapdb_replica.proofs.TakenPages.{IsTakenAt}
+use Rattle.mapdb_replica.proofs.UnmapAtoms.{sound_cuts, take_unmap}
+use Rattle.mapdb_replica.specs.Reaching.{ComesFrom, HasNoneBelow, HasTaken, Reaches, TakesAll, UnmapReaches}
 
 -- what is cut is not had
 not_and_not : (a b : Bool) → b ≡ true → (a && not b) ≡ true → ⊥
@@ -87,3 +98,40 @@ unmap_reaches ops space part rights flush all places place S takes right named =
         takes id page right (atom_kept (unmap_candidates ops space (Some part) rights flush) (Rev id page right)
         (sound_cuts ops form space part place rights flush)
         (take_unmap ops form space part place rights flush id page right holder is))
+
+reaches : (ops : List Op) (space : Space) (page : Option Place) (rights : Rights) (flush : Bool) → all_formed ops ≡ true → HavePlaces ops
+    → (is_empty rights ≡ false → IfSome page IsPlace) → Reaches ops space page rights flush
+reaches ops space None rights flush all places is part same S takes right named = absurd (no_part part same)
+  where
+    no_part : (part : Place) → None ≡ Some part → ⊥
+    no_part part e = cc
+reaches ops space (Some page) rights flush all places is part same S takes right named =
+    unmap_reaches ops space part rights flush all places (subst IsPlace (same_part page part same) (is (some_here rights right named))) S
+    (subst (λ (o : Option Place). TakesAll S (unmap_candidates ops space o rights flush)) same takes) right named
+  where
+    same_part : (a b : Place) → Some a ≡ Some b → a ≡ b
+    same_part a b e = cc
+
+pub reached : {A : Type 0} → (result : Result A IssueFault) (ops : List Op) (space : Space) (page : Option Place) (rights : Rights) (flush : Bool)
+    → all_formed ops ≡ true → HavePlaces ops → OnOk result (is_empty rights ≡ false → IfSome page IsPlace)
+    → OnOk result (Reaches ops space page rights flush)
+reached (Ok answer) ops space page rights flush all places is = reaches ops space page rights flush all places is
+reached (Err fault) ops space page rights flush all places is = tt
+
+-- a copy that issued an Unmap has taken it
+pub issued_taken : {A : Type 0} → (result : Result A IssueFault) (old new : Log) (space : Space) (page : Option Place) (rights : Rights) (flush : Bool)
+    → Issues (unmap_outcome old space page rights flush) result old new → OnOk result (HasTaken new.ops old.ops space page rights flush)
+issued_taken result old new space page rights flush = by_outcome result (unmap_outcome old space page rights flush) refl
+  where
+    candidates : List Op
+    candidates = unmap_candidates old.ops space page rights flush
+
+    by_outcome : {A : Type 0} → (result : Result A IssueFault) (outcome : Result (List Op) IssueFault) → unmap_outcome old space page rights flush ≡ outcome
+        → Issues outcome result old new → OnOk result (HasTaken new.ops old.ops space page rights flush)
+    by_outcome (Err fault) outcome is issues = tt
+    by_outcome (Ok answer) (Err refusal) is issues = absurd issues
+    by_outcome (Ok answer) (Ok ops) is issues = λ atom has.
+        subst (λ (log : Log). HasAtom log.ops atom) (sym issues)
+        (subst (λ (xs : List Op). HasAtom (old.ops ++ xs) atom)
+        (sym (issued_news (ended_refusal (state_of old.ops) space) old.ops candidates ops is))
+        ((news_give old.ops candidates atom).1 (atom_right old.ops candidates atom has)))
