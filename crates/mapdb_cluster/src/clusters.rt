@@ -32,9 +32,9 @@ impl Model for Cluster {
     ghost invariant = { λ c. IsKept (record { copies = c.copies.items; messages = c.messages.items }) };
 }
 
-/// So many empty copies.
+/// Copies that hold nothing, of processors from 0 on. There are at most 64 processors.
 #[tactic(auto, using(crate::proofs::NewCopies::one_copy_more))]
-fn new_copies(alloc: Global, count: u8) -> Result<Vec<Replica>, AllocError>
+pub fn new_copies(alloc: Global, count: u8) -> Result<Vec<Replica>, AllocError>
     requires { count ≤ PROCESSOR_LIMIT }
     ensures { IfOk result (λ copies. copies.items ≡ map empty (range_with_len 0 count)) }
 {

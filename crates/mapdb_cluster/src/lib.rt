@@ -12,8 +12,9 @@ mod messages;
 mod runs;
 mod taking;
 
-pub use clusters::Cluster;
+pub use clusters::{Cluster, new_copies};
 pub use events::{Event, Refusal, Reply};
+pub use messages::Message;
 pub use runs::RunFault;
 
 #[cfg(test)]

@@ -3,9 +3,9 @@
 use mapdb_facts::Op;
 use std::marker::Model;
 
-/// A message: operations of the sender's copy, in order of arrival there.
+/// A message: operations of the copy that sent it, in their order of arrival there.
 #[derive(Drop)]
-pub(crate) struct Message {
+pub struct Message {
     ops: Vec<Op>,
 }
 
@@ -22,14 +22,14 @@ impl Message {
     ghost use Rattle.std.specs.Prelude.{◌≡◌};
 
     /// A message of these operations.
-    pub(crate) fn new(ops: Vec<Op>) -> Message
+    pub fn new(ops: Vec<Op>) -> Message
         ensures { result ≡ ops.items }
     {
         Message { ops }
     }
 
     /// The operations.
-    pub(crate) fn ops(&self) -> &[Op]
+    pub fn ops(&self) -> &[Op]
         ensures { result.now ≡ self.now }
     {
         self.ops.as_slice()

@@ -1,15 +1,13 @@
 -- Clusters of copies.
-use Rattle.std.proofs.Common.{◌≡◌, ℕ, ◌+◌, ◌<◌, List, [], ◌∷◌, ◌++◌, length, get_or, map, refl, sym, ap, ◌∙◌, arith, true}
+use Rattle.std.proofs.Common.{◌≡◌, ℕ, ◌<◌, List, length, get_or, refl, sym, ap, ◌∙◌, arith, true}
 use Rattle.std.proofs.lemmas.Bool.{lt-ltb}
 use Rattle.std.proofs.lemmas.List.{set-get_or}
-use Rattle.std.proofs.lemmas.List.FromFn.{map-range_with_len_more}
 use Rattle.std.proofs.lemmas.Option.{slice_get_read}
-use Rattle.std.specs.List.{range_with_len}
 use Rattle.std.specs.Prelude.{nat_lt, slice_set, Result, Ok, Err}
 use Rattle.mapdb_facts.specs.declared.names.RecordId.{RecordId}
 use Rattle.mapdb_facts.specs.declared.operations.Op.{Op}
 use Rattle.mapdb_replica.specs.Commands.{command_outcome}
-use Rattle.mapdb_replica.specs.Replica.{Log, empty, Issues, Names}
+use Rattle.mapdb_replica.specs.Replica.{Log, Issues, Names}
 use Rattle.mapdb_replica.specs.declared.commands.Command.{Command}
 use Rattle.mapdb_replica.specs.declared.faults.IssueFault.{IssueFault}
 use Rattle.mapdb_replica.specs.declared.faults.IssueFault.TheVariants as issue
@@ -20,10 +18,6 @@ use Rattle.mapdb_script.specs.States.{Does, IsTold}
 use Rattle.mapdb_script.specs.declared.cluster.Reply.{Reply as Answer}
 use Rattle.mapdb_lines.specs.declared.fault.LineFault.{LineFault}
 use Rattle.mapdb_script.specs.declared.turn_fault.TurnFault.{TurnFault}
-
--- the copy of one processor more
-pub one_copy_more : (n : ℕ) → map empty (range_with_len 0 (n + 1)) ≡ map empty (range_with_len 0 n) ++ empty n ∷ []
-one_copy_more n = map-range_with_len_more empty 0 n n (omega arith)
 
 -- what is done at a processor that is there
 pub at_processor_there : (cluster : Cluster) (at : ℕ) (copy : Log) (done : Log → Done) → at < length cluster.copies → copy ≡ get_or cluster.copies at copy

@@ -1,16 +1,12 @@
 //! What the lines of a script do to a cluster of copies.
 
-ghost use Rattle.std.specs.Prelude.{◌≡◌, ◌≤◌, IfOk, map};
-ghost use Rattle.std.specs.List.{range_with_len};
-ghost use Rattle.mapdb_replica.specs.Replica.{empty};
-
-use crate::messages::Message;
 use crate::replies::{
     Refusal, ended_text, records_text, revocations_text, rights_text, served_text, taken_text,
     tree_text,
 };
 use crate::sequence::{Sequence, map_command, unmap_command};
 use crate::turn_fault::TurnFault;
+use mapdb_cluster::{Message, new_copies};
 use mapdb_facts::Space;
 use mapdb_fpage::{Fpage, MapItem, PAGE_BYTES, Rights};
 use mapdb_lines::{Line, LineFault, MOST_PROCESSORS};
@@ -85,19 +81,6 @@ impl Reply {
             }
         }
     }
-}
-
-/// Empty copies of the first processors.
-#[tactic(auto, using(crate::proofs::ClusterLemmas::one_copy_more))]
-fn new_copies(alloc: Global, count: u8) -> Result<Vec<Replica>, AllocError>
-    requires { count ≤ MOST_PROCESSORS }
-    ensures { IfOk result (λ copies. copies.items ≡ map empty (range_with_len 0 count)) }
-{
-    let mut copies = Vec::new(alloc);
-    for processor in 0..count {
-        copies.push(Replica::new(alloc, processor))?;
-    }
-    Ok(copies)
 }
 
 /// The copies of a script, one for each processor, and the messages that were sent; none before there is a cluster.

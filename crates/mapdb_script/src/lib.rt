@@ -9,7 +9,6 @@ mod cluster;
 mod engine;
 mod exchange;
 pub mod laws;
-mod messages;
 mod replay;
 mod replies;
 mod script;
