@@ -9,18 +9,10 @@ use Rattle.mapdb_fpage.specs.declared.right_sets.Rights.{Rights}
 use Rattle.mapdb_facts.specs.Adding.{same_rights}
 use Rattle.mapdb_facts.specs.declared.names.Space.{Space}
 use Rattle.mapdb_replica.specs.Pairs.{Pair}
+use Rattle.mapdb_facts.proofs.RunLists.{same_rights_itself}
 use Rattle.mapdb_table.specs.Serving.{continues, pair_on}
 use Rattle.mapdb_table.specs.Table.{goes_on, row_of, rows_behind, rows_from, with_page, with_served}
 use Rattle.mapdb_table.specs.declared.rows.TableRow.{TableRow}
-
-beq_itself : (b : Bool) → beq b b ≡ true
-beq_itself true = refl
-beq_itself false = refl
-
-same_rights_itself : (rights : Rights) → same_rights rights rights ≡ true
-same_rights_itself rights =
-    and_from (beq rights.read rights.read) _ (beq_itself rights.read)
-    (and_from (beq rights.write rights.write) (beq rights.execute rights.execute) (beq_itself rights.write) (beq_itself rights.execute))
 
 same_number : (n : ℕ) → (n == n) ≡ true
 same_number n = grind (arith, nat_tests)
