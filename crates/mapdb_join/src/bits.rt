@@ -1,4 +1,4 @@
-// The bits of a byte.
+//! The bits of a byte.
 ghost use Rattle.std.specs.Prelude.{◌≡◌, ℕ, IsTrue, ◌↔◌, IsOk, IsOkAnd, OnOk, bit_or, refl};
 ghost use Rattle.std.specs.List.{range_with_len};
 ghost use Rattle.mapdb_join.specs.Atoms.{Includes, IsUnion, Clashes};

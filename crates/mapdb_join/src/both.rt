@@ -1,4 +1,4 @@
-// Two values side by side.
+//! Two values side by side.
 ghost use Rattle.mapdb_join.specs.Both.{has_either, excludes_either, atoms_either, IsPair, IsEitherSpot};
 ghost use Rattle.mapdb_join.specs.Lawful.Both.{exclusion_either, finite_either, joined_either, one_either_spot};
 

@@ -1,4 +1,4 @@
-// Walks over the entries of maps.
+//! Walks over the entries of maps.
 ghost use Rattle.std.specs.Prelude.{◌≡◌, [], ◌∷◌, IfSome, IfErr, OnOk, OnErr, IsTrue, ◌↔◌, MatchOption};
 ghost use Rattle.std.specs.BTreeMap.{get};
 ghost use Rattle.mapdb_join.specs.Atoms.{IsSame, IsUnion, IsBetween, Includes, HasNone, Clashes};

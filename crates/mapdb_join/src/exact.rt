@@ -1,4 +1,4 @@
-// Values that contracts can tell apart as a program does.
+//! Values that contracts can tell apart as a program does.
 ghost use Rattle.std.specs.Prelude.{◌≡◌, ◌<◌, ◌^◌, true};
 ghost use Rattle.std.specs.Cmp.{booleans_Decides};
 ghost use Rattle.std.proofs.lemmas.Bool.{eqb-true};

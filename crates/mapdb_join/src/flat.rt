@@ -1,4 +1,4 @@
-// One value.
+//! One value.
 ghost use Rattle.std.specs.Prelude.{◌≡◌, ◌≢◌, [], ◌∷◌, OnOk, IfErr, IsOkAnd, refl};
 ghost use Rattle.mapdb_join.specs.Atoms.{IsUnion, Clashes};
 ghost use Rattle.mapdb_join.specs.Faults.{FaultLeaves};

@@ -1,4 +1,4 @@
-// A set that grows.
+//! A set that grows.
 ghost use Rattle.std.specs.Prelude.{◌≡◌, ◌∷◌, [], false, not, List, IfOk, IfErr, OnOk, OnErr, refl};
 ghost use Rattle.std.specs.BTreeSet.{contains, insert_key};
 ghost use Rattle.mapdb_join.specs.Atoms.{Includes, IsUnion, IsBetween, Clashes};

@@ -1,4 +1,4 @@
-// A map of values that merge.
+//! A map of values that merge.
 ghost use Rattle.std.specs.Prelude.{◌≡◌, [], ◌∷◌, false, None, Some, IsSome, IfSome, OnOk, IfOk, IfErr, OnErr, MatchOption};
 ghost use Rattle.std.specs.Borrow.{sem};
 ghost use Rattle.std.specs.Option.{option_copied, option_copied_mut};

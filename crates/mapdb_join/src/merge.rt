@@ -1,4 +1,4 @@
-// What merges, and what is told when a merge is refused.
+//! What merges, and what is told when a merge is refused.
 ghost use Rattle.std.specs.Prelude.{◌≡◌, true, Bool, List, IsTrue, ◌↔◌, IfOk, IfSome, IfNone, OnOk, IfErr};
 ghost use Rattle.std.specs.List.{Contains};
 ghost use Rattle.mapdb_join.specs.Atoms.{Includes, IsSame, IsUnion, HasNone, Clashes, IsExclusion};

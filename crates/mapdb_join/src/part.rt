@@ -1,4 +1,4 @@
-// Values that take one part at a time.
+//! Values that take one part at a time.
 ghost use Rattle.std.specs.Prelude.{◌≡◌, [], ◌∷◌, false, OnOk, OnErr, IfOk, IfErr, IsOk, IsOkAnd};
 ghost use Rattle.std.specs.Map.{lookup};
 ghost use Rattle.std.specs.BTreeMap.{is_at};

@@ -26,7 +26,9 @@ pub struct Holder {
 /// A part of a source, and the record that holds it.
 #[derive(Clone, Copy, Debug, PartialEq, Eq)]
 pub struct Piece {
+    /// The record, or the root.
     pub parent: RecordId,
+    /// The part, in pages of the sender.
     pub source: Fpage,
 }
 

@@ -6,6 +6,7 @@ use mapdb_fpage::Rights;
 /// A page of an address space.
 #[derive(Clone, Copy, Debug, PartialEq, Eq, PartialOrd, Ord, Hash)]
 pub struct Page {
+    /// The space.
     pub space: Space,
     /// The page's number in its space.
     pub number: u32,
