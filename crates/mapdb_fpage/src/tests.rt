@@ -60,6 +60,14 @@ fn places_have_pages(rt: HostRuntime) -> Result<(), Fail> {
 }
 
 #[test]
+fn places_are_ordered_by_their_first_page(rt: HostRuntime) -> Result<(), Fail> {
+    let large = place(0x10000, 14)?;
+    assert!(rt; large < place(0x11000, 12)?);
+    assert!(rt; place(0x10000, 12)? < large);
+    Ok(())
+}
+
+#[test]
 fn larger_window_takes_the_part_at_the_send_base(rt: HostRuntime) -> Result<(), Fail> {
     let page = place(0x10000, 14)?;
     let window = Some(place(0x40000, 16)?);

@@ -1,4 +1,5 @@
 //! What lines say, and their faults in order.
 
+mod faults;
 mod lines;
 mod words;

@@ -215,11 +215,17 @@ fn seat_of_another_node(rt: HostRuntime) -> Result<(), Fail> {
     }
 }
 
+/// A call takes no seat of a node's 64.
 #[test]
-fn too_many_seats(rt: HostRuntime) {
+fn too_many_seats(rt: HostRuntime) -> Result<(), Fail> {
     let node = Node::new(rt.alloc(), 0);
-    for _ in 0..64 {
+    let Ok(mut first) = node.seat(&rt) else {
+        return Err(Fail::from("no seat"));
+    };
+    assert!(rt; map_and_read(&rt, &node, &mut first, 7, 1));
+    for _ in 1..64 {
         assert!(rt; node.seat(&rt).is_ok());
     }
     expect(&rt, node.seat(&rt).err(), Some(SeatFault::NoSeat));
+    Ok(())
 }

@@ -66,8 +66,9 @@ fn fault_at<R: Abort + Threads + Wait + Sync, G: Gate + Sync>(
     Ok(run(rt, alloc, scripts, 2, gate).err())
 }
 
+/// Where one lock stood round all nodes, or one thread did everything, no two processors would be held at once.
 #[test]
-fn two_at_once(rt: HostRuntime) -> Result<(), Fail> {
+fn no_parallelism(rt: HostRuntime) -> Result<(), Fail> {
     let meeting = Meeting {
         held: [AtomicU64::new(0), AtomicU64::new(0)],
     };
