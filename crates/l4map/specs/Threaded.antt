@@ -7,7 +7,6 @@ use Rattle.mapdb_exchange.specs.declared.faults.RunFault.{RunFault}
 use Rattle.mapdb_exchange.specs.declared.faults.RunFault.TheVariants as run
 use Rattle.mapdb_exchange.specs.declared.reports.Part.{Part}
 use Rattle.mapdb_lines.specs.Fronts.{BeginsWith}
-use Rattle.mapdb_lines.specs.declared.fault.ScriptFault.{ScriptFault}
 use Rattle.mapdb_lines.specs.declared.fault.ScriptFault.TheVariants as script
 use Rattle.mapdb_script.specs.Cluster.{reply_line}
 use Rattle.mapdb_script.specs.Reply.{same_text}

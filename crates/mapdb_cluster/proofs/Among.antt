@@ -3,6 +3,7 @@ use Rattle.std.proofs.Common.{◌≡◌, ℕ, zero, suc, Bool, true, false, Some
 use Rattle.std.specs.Prelude.{◌⊎◌, slice_get, if◌then◌else◌}
 use Rattle.std.proofs.lemmas.Bool.{and_from, and_parts}
 use Rattle.std.proofs.lemmas.List.{take-append-drop}
+use Rattle.mapdb_facts.proofs.Among.{among_left, among_right}
 use Rattle.mapdb_facts.specs.Adding.{is_new}
 use Rattle.mapdb_facts.specs.Records.{IsAmong}
 use Rattle.mapdb_facts.specs.State.{Gives, HasAtom, Rec, State, join, said}
@@ -11,24 +12,6 @@ use Rattle.mapdb_facts.specs.declared.operations.Op.{Op}
 use Rattle.mapdb_facts.specs.declared.operations.Op.TheVariants.{Born, Closed, Cut}
 use Rattle.mapdb_facts.specs.declared.operations.Record.{Record}
 use Rattle.mapdb_replica.specs.Replica.{news}
-
-pub among_append : (xs ys : List Op) (op : Op) → IsAmong op (xs ++ ys) → IsAmong op xs ⊎ IsAmong op ys
-among_append [] ys op among = inr among
-among_append (x ∷ xs) ys op (inl here) = inl (inl here)
-among_append (x ∷ xs) ys op (inr later) = by_part (among_append xs ys op later)
-  where
-    by_part : IsAmong op xs ⊎ IsAmong op ys → IsAmong op (x ∷ xs) ⊎ IsAmong op ys
-    by_part (inl first) = inl (inr first)
-    by_part (inr second) = inr second
-
-pub among_left : (xs ys : List Op) (op : Op) → IsAmong op xs → IsAmong op (xs ++ ys)
-among_left [] ys op among = absurd among
-among_left (x ∷ xs) ys op (inl here) = inl here
-among_left (x ∷ xs) ys op (inr later) = inr (among_left xs ys op later)
-
-pub among_right : (xs ys : List Op) (op : Op) → IsAmong op ys → IsAmong op (xs ++ ys)
-among_right [] ys op among = among
-among_right (x ∷ xs) ys op among = inr (among_right xs ys op among)
 
 pub among_take : (xs : List Op) (n : ℕ) (op : Op) → IsAmong op (take n xs) → IsAmong op xs
 among_take xs n op among = subst (λ (ys : List Op). IsAmong op ys) (take-append-drop n xs) (among_left (take n xs) (drop n xs) op among)

@@ -21,7 +21,8 @@ use Rattle.mapdb_cluster.specs.Net.{Done, Net, at_copy, at_processor, event_done
 use Rattle.mapdb_cluster.specs.Run.{Happens, Loads, Move, after, replies}
 use Rattle.mapdb_cluster.specs.declared.events.Event.{Event}
 use Rattle.mapdb_cluster.specs.declared.events.Event.TheVariants.{Deliver, Issue, Join, Send}
-use Rattle.mapdb_cluster.proofs.Among.{among_atom, among_take, atom_among, formed_among, formed_each, among_append}
+use Rattle.mapdb_facts.proofs.Among.{among_append}
+use Rattle.mapdb_cluster.proofs.Among.{among_atom, among_take, atom_among, formed_among, formed_each}
 use Rattle.mapdb_cluster.proofs.Changing.{each_changed}
 use Rattle.mapdb_cluster.proofs.HonestSteps.{AllFormed, Does, EachHeld, deliver_event, issue_event, join_event, send_event}
 use Rattle.mapdb_cluster.proofs.Issuers.{kept_from}

@@ -35,7 +35,8 @@ use Rattle.mapdb_cluster.specs.declared.events.Refusal.{Refusal}
 use Rattle.mapdb_cluster.specs.declared.events.Refusal.TheVariants as refusal
 use Rattle.mapdb_cluster.specs.declared.events.Reply.{Reply}
 use Rattle.mapdb_cluster.specs.declared.events.Reply.TheVariants.{Refused, Taken}
-use Rattle.mapdb_cluster.proofs.Among.{among_append, among_atom, among_drop, among_left, among_news, among_right, among_take, put_at}
+use Rattle.mapdb_facts.proofs.Among.{among_append, among_left, among_right}
+use Rattle.mapdb_cluster.proofs.Among.{among_atom, among_drop, among_news, among_take, put_at}
 use Rattle.mapdb_cluster.proofs.Changing.{changed_kept, each_changed}
 use Rattle.mapdb_cluster.proofs.Issuers.{AllIssued, issued_formed, issued_held, issued_sound, kept_from}
 use Rattle.mapdb_cluster.proofs.Slots.{set_here}

@@ -29,7 +29,6 @@ pub mod Bounding
 pub mod CutCopies
 mod SeenRecords
 pub mod LimitLemmas
-pub mod RightLemmas
 pub mod AtomLists
 pub mod HolderLists
 pub mod OpForms

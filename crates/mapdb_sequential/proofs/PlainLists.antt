@@ -21,8 +21,8 @@ use Rattle.mapdb_replica.specs.declared.faults.IssueFault.{IssueFault}
 use Rattle.mapdb_sequential.proofs.PageAnswers.{has_node}
 use Rattle.mapdb_sequential.proofs.Running.{matched_run, matched_start}
 use Rattle.mapdb_sequential.specs.Plain.{After, refusal_of}
-use Rattle.mapdb_tree.specs.Steps.{AfterMap, AfterUnmap}
-use Rattle.mapdb_tree.specs.Tree.{mapped}
+use Rattle.mapdb_tree.specs.Steps.{AfterMap, AfterUnmap, map_occupied, occupied_refusal}
+use Rattle.mapdb_tree.specs.Tree.{mapped, Tree, first_tree}
 use Rattle.mapdb_fpage.specs.Place.{Place}
 use Rattle.mapdb_fpage.specs.declared.items.Transfer.{Transfer}
 use Rattle.mapdb_fpage.specs.declared.right_sets.Rights.{Rights}
@@ -30,8 +30,6 @@ use Rattle.mapdb_sequential.proofs.LinkedUnmap.{end_leaves, unmap_leaves}
 use Rattle.mapdb_sequential.proofs.Linking.{IsShort}
 use Rattle.mapdb_sequential.proofs.PathTrees.{PathTree}
 use Rattle.mapdb_sequential.specs.Sequential.{CommandsLeaveTrees, RefusalsAgree, SequentialTree, destination_refusal, for_spaces_or}
-use Rattle.mapdb_tree.specs.Steps.{map_occupied, occupied_refusal}
-use Rattle.mapdb_tree.specs.Tree.{Tree, first_tree}
 use Rattle.mapdb_tree.specs.declared.faults.TreeFault.{TreeFault}
 
 -- a limit is none of the tree's

@@ -1,9 +1,7 @@
 -- What the tree is after one command, beside the state.
 use Rattle.std.proofs.Common.{◌≡◌, ℕ, Bool, true, false, Some, refl, sym, ap, subst, ◌∙◌, List, [], ◌∷◌, inl, inr, arith}
-use Rattle.std.specs.Prelude.{◌||◌, Option, None, if◌then◌else◌}
-use Rattle.std.proofs.lemmas.Bool.{lt-ltb}
-use Rattle.std.specs.Prelude.{IfSome, zero, suc, nat_le, ◌<◌, ◌≤◌, ◌+◌, ◌⊎◌}
-use Rattle.std.proofs.lemmas.Bool.{cases_Bool, cond-false, leb-true}
+use Rattle.std.specs.Prelude.{◌||◌, Option, None, if◌then◌else◌, IfSome, zero, suc, nat_le, ◌<◌, ◌≤◌, ◌+◌, ◌⊎◌}
+use Rattle.std.proofs.lemmas.Bool.{lt-ltb, cases_Bool, cond-false, leb-true}
 use Rattle.std.proofs.lemmas.Bool.Decides.{nat_tests}
 use Rattle.mapdb_fpage.proofs.Meets.{holds_range}
 use Rattle.mapdb_fpage.specs.Bounds.{page_limit}
@@ -26,10 +24,8 @@ use Rattle.mapdb_sequential.proofs.LinkedUnmap.{short_end, short_unmap}
 use Rattle.mapdb_sequential.proofs.Linking.{IsShort, both_short, brought_short, short_map, short_same}
 use Rattle.mapdb_sequential.proofs.MapLists.{is_mapped}
 use Rattle.mapdb_sequential.proofs.Mapping.{shows_after_map}
-use Rattle.mapdb_replica.proofs.SharedPlaces.{number_behind}
-use Rattle.mapdb_sequential.proofs.PathTrees.{PathNode, PathTree, is_path_taken}
-use Rattle.mapdb_sequential.proofs.PathTrees.{path_after_end, path_after_map, path_after_unmap, path_brought, path_handed}
-use Rattle.mapdb_replica.proofs.SharedPlaces.{whole_holds}
+use Rattle.mapdb_replica.proofs.SharedPlaces.{number_behind, whole_holds}
+use Rattle.mapdb_sequential.proofs.PathTrees.{PathNode, PathTree, is_path_taken, path_after_end, path_after_map, path_after_unmap, path_brought, path_handed}
 use Rattle.mapdb_sequential.proofs.Showing.{Shows}
 use Rattle.mapdb_replica.proofs.OpForms.{IsFormed}
 use Rattle.mapdb_sequential.proofs.StateSteps.{IsEndedState, IsKept, IsTransfer}

@@ -24,8 +24,7 @@ use Rattle.mapdb_sequential.proofs.PathTrees.{PathTree, first_path_tree, path_af
 use Rattle.mapdb_sequential.proofs.Stepping.{free_of, not_occupied, not_refused}
 use Rattle.mapdb_sequential.proofs.Walking.{IsLow, ended_is, ended_only, same_tree, unmapped_is, unmapped_only}
 use Rattle.mapdb_sequential.specs.Plain.{After, GoesOn, IsPlain, refusal_of}
-use Rattle.mapdb_sequential.specs.Trees.{Makes, PlainListsHaveTrees, TreesAreExact, accepted, accepted_onto, tree_after}
-use Rattle.mapdb_sequential.specs.Trees.{tree_after_map, tree_after_unmap, tree_from, unless_refused}
+use Rattle.mapdb_sequential.specs.Trees.{Makes, PlainListsHaveTrees, TreesAreExact, accepted, accepted_onto, tree_after, tree_after_map, tree_after_unmap, tree_from, unless_refused}
 
 -- the whole ways up of a tree, none longer than so many steps
 record HasWays (steps : ℕ) (T : Tree) : Type 0 where
