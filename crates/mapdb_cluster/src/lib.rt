@@ -16,6 +16,3 @@ pub use clusters::{Cluster, new_copies};
 pub use events::{Event, Refusal, Reply};
 pub use messages::Message;
 pub use runs::RunFault;
-
-#[cfg(test)]
-mod tests;

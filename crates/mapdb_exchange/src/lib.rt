@@ -22,6 +22,3 @@ pub use faults::{NodeFault, RunFault};
 pub use links::{Incoming, LinkFault, MOST_CAPACITY, NextFault, Outgoing, PutFault, link, settle};
 pub use messages::{Batch, Message, Ops};
 pub use reports::{Part, Report};
-
-#[cfg(test)]
-mod tests;

@@ -15,6 +15,3 @@ mod writing;
 pub use faults::{SNAPSHOT_VERSION, SnapshotFault};
 pub use reading::snapshot_read;
 pub use writing::snapshot_text;
-
-#[cfg(test)]
-mod tests;

@@ -8,8 +8,6 @@ mod faults;
 mod nodes;
 mod reaching;
 mod stored;
-#[cfg(test)]
-mod tests;
 mod trees;
 
 pub use faults::TreeFault;

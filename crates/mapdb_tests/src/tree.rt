@@ -1,0 +1,138 @@
+//! What commands leave of rights, by examples and against the plain tree.
+
+use mapdb_facts::Space;
+use mapdb_fpage::{Fpage, MapItem, Rights};
+use mapdb_tree::{Tree, TreeFault};
+use std::alloc::Global;
+use std::test::Fail;
+
+mod plain;
+mod rows;
+
+const READ_WRITE: Rights = Rights {
+    read: true,
+    write: true,
+    execute: false,
+};
+
+const READ: Rights = Rights {
+    read: true,
+    write: false,
+    execute: false,
+};
+
+const WRITE: Rights = Rights {
+    read: false,
+    write: true,
+    execute: false,
+};
+
+/// The space of this number.
+fn space(number: u16) -> Space {
+    Space { number }
+}
+
+/// The place of one page.
+fn page(number: u32) -> Option<Fpage> {
+    Fpage::new(number as u64 * 4096, 12).ok()
+}
+
+/// An item that offers one page.
+fn item(number: u32, rights: Rights) -> MapItem {
+    MapItem {
+        send_base: 0,
+        page: page(number),
+        rights,
+    }
+}
+
+/// Page 0x10 of the first space goes to page 0x20 of space 1, and that one to page 0x30 of space 2.
+fn two_steps(alloc: Global) -> Result<Tree, Fail> {
+    let mut tree = Tree::new(alloc);
+    tree.map(space(0), &item(0x10, READ_WRITE), space(1), page(0x20))?;
+    tree.map(space(1), &item(0x20, Rights::ALL), space(2), page(0x30))?;
+    Ok(tree)
+}
+
+#[test]
+fn a_right_that_the_mapper_lacks(rt: HostRuntime) -> Result<(), Fail> {
+    let tree = two_steps(rt.alloc())?;
+    assert_eq!(rt; tree.rights(space(2), 0x30), Some((0x10, READ_WRITE)));
+    assert_eq!(rt; tree.rights(space(2), 0x31), None);
+    assert_eq!(rt; tree.rights(space(0), 0x10), Some((0x10, Rights::ALL)));
+    assert_eq!(rt; tree.rights(space(0), 1 << 20), None);
+    Ok(())
+}
+
+#[test]
+fn an_occupied_page_is_told(rt: HostRuntime) -> Result<(), Fail> {
+    let mut tree = two_steps(rt.alloc())?;
+    let again = tree.map(space(0), &item(0x11, READ), space(1), page(0x20));
+    assert_eq!(rt; again, Err(TreeFault::Occupied(space(1), 0x20)));
+    assert_eq!(rt; tree.rights(space(1), 0x20), Some((0x10, READ_WRITE)));
+    assert_eq!(rt; tree.rights(space(2), 0x30), Some((0x10, READ_WRITE)));
+    Ok(())
+}
+
+#[test]
+fn an_unmapped_page_can_be_mapped_again(rt: HostRuntime) -> Result<(), Fail> {
+    let mut tree = two_steps(rt.alloc())?;
+    assert_eq!(rt;
+        tree.unmap(space(0), page(0x10), Rights::ALL, false),
+        Ok(())
+    );
+    assert_eq!(rt; tree.rights(space(1), 0x20), None);
+    assert_eq!(rt;
+        tree.map(space(0), &item(0x11, READ), space(1), page(0x20)),
+        Ok(())
+    );
+    assert_eq!(rt; tree.rights(space(1), 0x20), Some((0x11, READ)));
+    assert_eq!(rt; tree.rights(space(2), 0x30), None);
+    Ok(())
+}
+
+#[test]
+fn an_end_takes_all_below(rt: HostRuntime) -> Result<(), Fail> {
+    let mut tree = two_steps(rt.alloc())?;
+    assert_eq!(rt; tree.end(space(0)), Err(TreeFault::RootSpace));
+    assert_eq!(rt; tree.end(space(1)), Ok(()));
+    assert_eq!(rt; tree.rights(space(2), 0x30), None);
+    let ended = Err(TreeFault::SpaceEnded(space(1)));
+    assert_eq!(rt;
+        tree.map(space(1), &item(0x20, READ), space(0), page(0x30)),
+        ended
+    );
+    assert_eq!(rt;
+        tree.map(space(0), &item(0x10, READ), space(1), page(0x20)),
+        ended
+    );
+    assert_eq!(rt; tree.unmap(space(1), None, Rights::NONE, false), ended);
+    assert_eq!(rt; tree.end(space(1)), ended);
+    Ok(())
+}
+
+#[test]
+fn one_right_is_taken(rt: HostRuntime) -> Result<(), Fail> {
+    let mut tree = two_steps(rt.alloc())?;
+    assert_eq!(rt; tree.unmap(space(1), page(0x20), WRITE, false), Ok(()));
+    assert_eq!(rt; tree.rights(space(1), 0x20), Some((0x10, READ_WRITE)));
+    assert_eq!(rt; tree.rights(space(2), 0x30), Some((0x10, READ)));
+    assert_eq!(rt; tree.unmap(space(1), page(0x20), WRITE, true), Ok(()));
+    assert_eq!(rt; tree.rights(space(1), 0x20), Some((0x10, READ)));
+    Ok(())
+}
+
+#[test]
+fn the_first_space_flushes_one_page(rt: HostRuntime) -> Result<(), Fail> {
+    let mut tree = two_steps(rt.alloc())?;
+    assert_eq!(rt; tree.unmap(space(0), page(0x10), Rights::ALL, true), Ok(()));
+    assert_eq!(rt; tree.rights(space(0), 0x10), None);
+    assert_eq!(rt; tree.rights(space(0), 0x11), Some((0x11, Rights::ALL)));
+    assert_eq!(rt; tree.rights(space(2), 0x30), None);
+    assert_eq!(rt;
+        tree.map(space(0), &item(0x10, READ), space(3), page(0x40)),
+        Ok(())
+    );
+    assert_eq!(rt; tree.rights(space(3), 0x40), None);
+    Ok(())
+}
