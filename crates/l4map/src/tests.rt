@@ -1,5 +1,6 @@
 //! What the program answers, and what it leaves on its streams.
 
+mod environment;
 mod statuses;
 mod streams;
 mod threaded;

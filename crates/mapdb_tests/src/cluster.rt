@@ -10,6 +10,7 @@ use std::process::Abort;
 use std::test::Fail;
 
 mod copies;
+mod sizes;
 
 /// The space of this number.
 fn space(number: u16) -> Space {

@@ -9,6 +9,8 @@ mod cluster;
 #[cfg(test)]
 mod exchange;
 #[cfg(test)]
+mod facts;
+#[cfg(test)]
 mod lines;
 #[cfg(test)]
 mod node;

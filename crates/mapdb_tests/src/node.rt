@@ -229,3 +229,18 @@ fn too_many_seats(rt: HostRuntime) -> Result<(), Fail> {
     expect(&rt, node.seat(&rt).err(), Some(SeatFault::NoSeat));
     Ok(())
 }
+
+/// A seat of many calls wants no memory for one more.
+#[test]
+fn many_calls(rt: HostRuntime) -> Result<(), Fail> {
+    let node = Node::new(rt.alloc(), 3);
+    let Ok(mut seat) = node.seat(&rt) else {
+        return Err(Fail::from("no seat"));
+    };
+    let mut all_done = true;
+    for _ in 0..20_000 {
+        all_done &= node.call(&rt, &mut seat, served(7, 1)).is_ok();
+    }
+    assert!(rt; all_done);
+    expect_one(&rt, rt.alloc(), node, seat, Closed::Entries(20_000))
+}

@@ -3,6 +3,7 @@
 mod examples;
 mod exchange;
 mod rows;
+mod sizes;
 mod snapshots;
 mod streams;
 mod tables;

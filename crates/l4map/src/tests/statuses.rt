@@ -15,6 +15,27 @@ const SCRIPT: &[u8] =
 /// What the script writes.
 const OUTPUT: &[u8] = b"records 1.0\nrights 00010:rw-\nrights 00013:rw-\nrights none\n";
 
+/// How help begins.
+const HELP: &str = "Runs scripts on a replicated L4 X.2 mapping database.
+
+Usage: l4map run < SCRIPT
+       l4map threads [--capacity N] < SCRIPT
+
+Commands:
+  run      Reads a script from standard input and writes the replies to standard output
+  threads  Runs the commands of a script, those of each processor in threads of their own
+";
+
+/// How the help of `run` begins.
+const RUN_HELP: &str = "Reads a script from standard input and writes the replies to standard output
+
+Usage: l4map run < SCRIPT
+
+Options:
+  -h, --help  Print help
+
+A script is a list of commands and queries for a cluster of processors, one a line.";
+
 /// Bytes enough for each text here.
 const ROOM: usize = 65_536;
 
@@ -86,10 +107,10 @@ fn words_that_clap_refuses(rt: HostRuntime) -> Result<(), Fail> {
         (&["l4map", "walk"], "unrecognized subcommand 'walk'"),
         (&["l4map", "run", "script"], "unexpected argument 'script'"),
         (&["l4map", "--fast", "run"], "unexpected argument '--fast'"),
-        (&["l4map", "help"], "rights P S ADDR"),
+        (&["l4map", "help"], HELP),
         (&["l4map", "help"], "words P S FIRST SECOND R WINDOW"),
         (&["l4map", "--help"], "rights P S ADDR"),
-        (&["l4map", "help", "run"], "rights P S ADDR"),
+        (&["l4map", "help", "run"], RUN_HELP),
         (&["l4map", "run", "-h"], "rights P S ADDR"),
     ];
     for (words, told) in cases {

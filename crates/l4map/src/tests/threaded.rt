@@ -16,6 +16,24 @@ const SCRIPT: &[u8] =
 const OUTPUT: &str = "processor 0 commands 2 issued 2\nprocessor 1 commands 1 issued 1\n\
     processor 2 commands 1 issued 1\nsame yes\n";
 
+/// How the help begins.
+const HELP: &str = "Runs the commands of a script, those of each processor in threads of their own
+
+Usage: l4map threads [--capacity N] < SCRIPT
+
+Options:
+      --capacity <N>  How many messages a link between two processors holds, 1 to 1024 [default: 16]
+  -h, --help          Print help
+
+The script has the lines processors (1 to 4), map, words, unmap and end, as of `l4map run`.";
+
+/// How a capacity is refused.
+const NO_CAPACITY: &str = "error: the capacity of a link is a number from 1 to 1024
+
+Usage: l4map run < SCRIPT
+       l4map threads [--capacity N] < SCRIPT
+";
+
 /// Bytes enough for each text here.
 const ROOM: usize = 65_536;
 
@@ -109,7 +127,7 @@ fn too_many_processors(rt: HostRuntime) {
 fn capacities_that_are_refused(rt: HostRuntime) -> Result<(), Fail> {
     for capacity in ["0", "1025", "x", "+1"] {
         let words = ["l4map", "threads", "--capacity", capacity];
-        expect_refused(&rt, words.as_slice(), "is a number from 1 to 1024")?;
+        expect_refused(&rt, words.as_slice(), NO_CAPACITY)?;
     }
     Ok(())
 }
@@ -126,5 +144,5 @@ fn words_behind_threads(rt: HostRuntime) -> Result<(), Fail> {
         &["l4map", "threads", "--capacity"],
         "a value is required",
     )?;
-    expect_refused(&rt, &["l4map", "threads", "--help"], "same yes")
+    expect_refused(&rt, &["l4map", "threads", "--help"], HELP)
 }

@@ -1,9 +1,11 @@
 //! Links for themselves.
 
-ghost use Rattle.std.specs.Prelude.{◌≡◌};
+ghost use Rattle.std.specs.Prelude.{◌≡◌, ◌<◌, ◌≤◌};
 
 use super::expect;
-use mapdb_exchange::{Batch, Incoming, Message, NextFault, Ops, Outgoing, PutFault, link, settle};
+use mapdb_exchange::{
+    Batch, Incoming, MOST_CAPACITY, Message, NextFault, Ops, Outgoing, PutFault, link, settle,
+};
 use std::alloc::Global;
 use std::process::Abort;
 use std::sync::Wait;
@@ -82,6 +84,31 @@ fn link_fin(rt: HostRuntime) -> Result<(), Fail> {
     receive_all(&rt, &mut incoming);
     settle(&rt, outgoing, incoming);
     Ok(())
+}
+
+/// Puts so many batches on a new link before the first is received, and receives them. A put that waits for a receiver waits
+/// for good.
+fn fill<R: Abort + Wait>(rt: &R, alloc: Global, capacity: u32) -> Result<(), Fail>
+    requires some { 0 < capacity }
+    requires most { capacity ≤ MOST_CAPACITY }
+{
+    let Ok((mut outgoing, mut incoming)) = link(rt, alloc, capacity as usize) else {
+        return Err(Fail::from("no link"));
+    };
+    for index in 0..capacity {
+        expect(rt, put(rt, &mut outgoing, batch(alloc, index)), Answer::Put);
+    }
+    for index in 0..capacity {
+        expect(rt, next(rt, &mut incoming), Answer::Batch(index));
+    }
+    Ok(())
+}
+
+#[test]
+fn a_link_holds_its_capacity(rt: HostRuntime) -> Result<(), Fail> {
+    fill(&rt, rt.alloc(), 1)?;
+    fill(&rt, rt.alloc(), 3)?;
+    fill(&rt, rt.alloc(), 1_024)
 }
 
 /// Puts more batches than the link holds and the other end receives. Answers whether one was handed back.
