@@ -1,11 +1,19 @@
-//! What the program stands in: the words of its command line, and where its messages go.
+//! What the program stands in: the words of its command line, where its messages go, and the status that it ends with.
 
-ghost use Rattle.std.specs.Prelude.{◌≡◌, false};
+ghost use Rattle.std.specs.Prelude.{◌≡◌, ◌⊎◌, ℕ, List, Result, false};
+ghost use Rattle.std.specs.Io.KnownBytes.{Appends, Consumes};
+ghost use Rattle.mapdb_lines.specs.declared.fault.ScriptFault.{ScriptFault};
+ghost use Rattle.mapdb_lines.specs.declared.fault.Summary.{Summary};
+ghost use Rattle.mapdb_script.specs.Run.{IsOver, Tells};
+ghost use Rattle.l4map.specs.Threaded.{BlamesThreads, TellsThreads, threads_message, threads_status};
+ghost use Rattle.l4map.specs.declared.threaded.ThreadsFault.{ThreadsFault};
+ghost use Rattle.l4map.specs.Statuses.{BlamesFailed, IsTold, Refuses, message_of, status_of};
 
 use crate::served::{refuse_unread, serve};
 use mapdb_script::{Sink, Source, ToWrite};
 use std::alloc::Global;
-use std::io::Stderr;
+use std::io::{Eprint, Stderr};
+use std::process::{ExitCode, Termination};
 use std::rt::Env;
 use std::sync::Wait;
 use std::thread::Threads;
@@ -15,6 +23,18 @@ use std::{env, io};
 pub trait ErrorSink: Sink {}
 
 impl ErrorSink for ToWrite<Stderr> {}
+
+/// The status that the program ends with. Only [`start`] gives one, so that `main` cannot end with another.
+#[derive(Drop)]
+pub struct Status {
+    code: u8,
+}
+
+impl Termination for Status {
+    fn report<R: Eprint>(self, _rt: &R) -> ExitCode {
+        ExitCode::from(self.code)
+    }
+}
 
 /// The words of the command line, the program's name first.
 fn words_of(environment: &(impl Env + Alloc<A = Global>)) -> io::Result<Vec<String>> {
@@ -30,12 +50,29 @@ pub fn start<
     R: Source,
     W: Sink,
     E: ErrorSink,
->(rt: &T, environment: &V, reader: &mut R, writer: &mut W, errors: &mut E) -> u8
+>(rt: &T, environment: &V, reader: &mut R, writer: &mut W, errors: &mut E) -> Status
     requires reader_works { R.has_failed reader.old ≡ false }
     requires writer_works { W.has_failed writer.old ≡ false }
+    ensures { ((reader.new ≡ reader.old) × (writer.new ≡ writer.old)
+        × Refuses result.code (E.written errors.old) (E.written errors.new) (E.has_failed errors.new))
+        ⊎ (((outcome : Result Summary ScriptFault) × (input text : List ℕ)
+        × Consumes (R.left reader.old) (R.left reader.new) input
+        × Appends (W.written writer.old) (W.written writer.new) text
+        × Tells outcome input text (IsOver (R.has_ended reader.new) (R.left reader.new))
+        × BlamesFailed outcome (R.has_failed reader.new) (W.has_failed writer.new)
+        × (result.code ≡ status_of outcome)
+        × IsTold (E.written errors.old) (E.written errors.new) (E.has_failed errors.new) (message_of outcome))
+        ⊎ ((capacity : ℕ) × (outcome : Result (Unit {0}) ThreadsFault) × (input text : List ℕ)
+        × Consumes (R.left reader.old) (R.left reader.new) input
+        × Appends (W.written writer.old) (W.written writer.new) text
+        × TellsThreads capacity outcome input text (IsOver (R.has_ended reader.new) (R.left reader.new))
+        × BlamesThreads outcome (R.has_failed reader.new) (W.has_failed writer.new)
+        × (result.code ≡ threads_status outcome)
+        × IsTold (E.written errors.old) (E.written errors.new) (E.has_failed errors.new) (threads_message outcome))) }
 {
-    match words_of(environment) {
+    let code = match words_of(environment) {
         Ok(words) => serve(rt, words.as_slice(), reader, writer, errors),
         Err(error) => refuse_unread(error.kind(), errors),
-    }
+    };
+    Status { code }
 }

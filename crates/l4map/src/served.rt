@@ -68,6 +68,7 @@ pub fn refuse_unread<E: Sink>(kind: io::ErrorKind, errors: &mut E) -> u8
         WantsMemory result (E.written errors.old) (E.written errors.new) (E.has_failed errors.new) }
     ensures words { kind ≢ io_kind.OutOfMemory → (result ≡ 2)
         × IsTold (E.written errors.old) (E.written errors.new) (E.has_failed errors.new) words_message }
+    ensures told { Refuses result (E.written errors.old) (E.written errors.new) (E.has_failed errors.new) }
 {
     if let io::ErrorKind::OutOfMemory = kind {
         return want_memory(errors);

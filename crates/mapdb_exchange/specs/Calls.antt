@@ -1,5 +1,5 @@
 -- What workers ask of a node and what it replies, by the calls from their seats.
-use Rattle.std.specs.Prelude.{ℕ, List, [], ◌∷◌, ◌++◌, Result, Ok, Err}
+use Rattle.std.specs.Prelude.{ℕ, ◌≡◌, ◌⊎◌, ◌+◌, ◌^◌, nat_lt, if◌then◌else◌, List, [], ◌∷◌, ◌++◌, Some, Result, Ok, Err}
 use Rattle.mapdb_facts.specs.declared.operations.Op.{Op}
 use Rattle.mapdb_replica.specs.declared.commands.Command.{Command}
 use Rattle.mapdb_replica.specs.declared.faults.IssueFault.{IssueFault}
@@ -13,7 +13,7 @@ use Rattle.mapdb_node.specs.declared.events.NodeReply.TheVariants as reply
 use Rattle.mapdb_node.specs.declared.seats.Call.{Call}
 use Rattle.mapdb_node.specs.declared.sharing.CallFault.{CallFault}
 use Rattle.mapdb_node.specs.declared.sharing.CallFault.TheVariants as call
-use Rattle.mapdb_exchange.specs.declared.faults.NodeFault.TheVariants.{JournalFull, Refused}
+use Rattle.mapdb_exchange.specs.declared.faults.NodeFault.TheVariants.{JournalFull, Own, Refused}
 use Rattle.mapdb_exchange.specs.declared.faults.WorkFault.{WorkFault}
 use Rattle.mapdb_exchange.specs.declared.faults.WorkFault.TheVariants.{Gate, Link, Memory, Node}
 use Rattle.mapdb_exchange.specs.declared.messages.Message.{Message}
@@ -38,6 +38,23 @@ issued_in reply.Ended = Ok 1
 issued_in (reply.IssueRefused why) = refused_issue why
 issued_in answer = Err Link
 
+-- the own operation that a reply tells
+abbrev pub own_in : NodeReply → Result Op WorkFault
+own_in (reply.Own (Some op)) = Ok op
+own_in answer = Err (Node Own)
+
+-- the place so many places on, of an own operation
+abbrev pub place_after : ℕ → ℕ → Result ℕ WorkFault
+place_after first count = if nat_lt (first + count) (2 ^ 32) then Ok (first + count) else Err (Node Own)
+
+-- a fault of a worker that reads own operations: there was none at a place, or a call was not done
+abbrev pub IsReadingFault : WorkFault → Type 0
+IsReadingFault fault = (fault ≡ Node Own) ⊎ ((why : CallFault) × (fault ≡ called_fault why))
+
+-- a fault of a worker that issues: an own operation was not read, or the reply to a command tells it
+abbrev pub IsIssuingFault : WorkFault → Type 0
+IsIssuingFault fault = IsReadingFault fault ⊎ ((answer : NodeReply) × (issued_in answer ≡ Err fault))
+
 -- the worker's fault where an operation was refused
 abbrev pub refused_take : TakeFault → WorkFault
 refused_take (take.Memory count) = Memory
@@ -48,6 +65,10 @@ abbrev pub taken_in : NodeReply → Result (Unit {0}) WorkFault
 taken_in (reply.Taken new) = Ok tt
 taken_in (reply.TakeRefused why) = Err (refused_take why)
 taken_in answer = Err Link
+
+-- a fault of a worker that takes operations: a call was not done, or the reply to a Take tells it
+abbrev pub IsTakingFault : WorkFault → Type 0
+IsTakingFault fault = ((why : CallFault) × (fault ≡ called_fault why)) ⊎ ((answer : NodeReply) × (taken_in answer ≡ Err fault))
 
 -- the operation of a Take, if it is held, before others
 abbrev pub with_held : NodeEvent → NodeReply → List Op → List Op

@@ -1,5 +1,5 @@
 -- The faults of links and of workers.
-use Rattle.std.specs.Prelude.{◌≡◌, ℕ, ◌<◌, ◌≤◌, ◌+◌, Bool, true, false, List, [], ◌∷◌, ◌++◌, Option, Some, None}
+use Rattle.std.specs.Prelude.{◌≡◌, ◌⊎◌, ℕ, ◌<◌, ◌≤◌, ◌+◌, Bool, true, false, List, [], ◌∷◌, ◌++◌, Option, Some, None}
 use Rattle.std.specs.List.{AllByRecursion}
 use Rattle.mapdb_exchange.specs.declared.messages.Message.{Message}
 use Rattle.mapdb_exchange.specs.declared.links.PutFault.{PutFault}
@@ -8,6 +8,8 @@ use Rattle.mapdb_exchange.specs.declared.faults.NodeFault.{NodeFault}
 use Rattle.mapdb_exchange.specs.declared.faults.NodeFault.TheVariants.{JournalFull, Own, Refused, Seats}
 use Rattle.mapdb_exchange.specs.declared.faults.RunFault.{RunFault}
 use Rattle.mapdb_exchange.specs.declared.faults.RunFault.TheVariants as run
+use Rattle.mapdb_exchange.specs.declared.faults.Unstarted.{Unstarted}
+use Rattle.mapdb_exchange.specs.declared.faults.Unstarted.TheVariants as start
 use Rattle.mapdb_exchange.specs.declared.faults.WorkFault.{WorkFault}
 use Rattle.mapdb_exchange.specs.declared.faults.WorkFault.TheVariants.{Gate, Link, Memory, Node, NoThread}
 
@@ -42,6 +44,16 @@ turn NoThread = 1
 turn (Node why) = 2 + node_turn why
 turn Gate = 6
 turn Link = 7
+
+-- a fault of a run in which no worker is at work: memory was wanted, or a node gave no seat, or its seats do not close it
+abbrev pub IsSetupFault : WorkFault → Type 0
+IsSetupFault fault = (fault ≡ Memory) ⊎ (fault ≡ Node Seats)
+
+-- the fault of a run in which not every worker was started
+abbrev pub missing : Option Unstarted → Option WorkFault
+missing None = None
+missing (Some start.Memory) = Some Memory
+missing (Some start.NoThread) = Some NoThread
 
 -- the fault, where there is one
 abbrev pub listed : Option WorkFault → List WorkFault

@@ -1,5 +1,5 @@
 -- The messages of a link.
-use Rattle.std.specs.Prelude.{ℕ, ◌+◌, Bool, true, false, ◌≡◌, List, [], ◌∷◌}
+use Rattle.std.specs.Prelude.{ℕ, ◌+◌, Bool, true, false, ◌≡◌, ◌==◌, ◌&&◌, List, [], ◌∷◌}
 use Rattle.std.specs.List.{list_any}
 use Rattle.mapdb_facts.specs.declared.operations.Op.{Op}
 use Rattle.mapdb_exchange.specs.declared.messages.Message.{Message}
@@ -12,6 +12,11 @@ is_fin Fin = true
 -- whether Fin is among them
 abbrev pub has_fin : List Message → Bool
 has_fin messages = list_any is_fin messages
+
+-- the message is Fin, or a batch from one processor to another with this index
+abbrev pub is_expected : ℕ → ℕ → ℕ → Message → Bool
+is_expected from to index (Batch batch) = (batch.from == from) && ((batch.to == to) && (batch.index == index))
+is_expected from to index Fin = true
 
 -- nothing stands after Fin
 abbrev pub IsFinLast : List Message → Type 0

@@ -2,18 +2,19 @@
 
 ghost use Rattle.std.specs.Prelude.{◌≡◌, ◌⊎◌, [], ◌<◌, ◌≤◌, ◌↔◌, length, map, IsTrue, IfErr, IfOk, OnOk};
 ghost use Rattle.mapdb_exchange.specs.Counts.{IsCount};
+ghost use Rattle.mapdb_exchange.specs.Faults.{IsSetupFault};
 ghost use Rattle.mapdb_exchange.specs.Reports.{AreParts, HoldSame};
 
 use crate::faults::{NodeFault, RunFault, WorkFault};
 use crate::issuing::Issuing;
 use crate::links::MOST_CAPACITY;
 use crate::networks::{Inbox, inboxes_of, outboxes_of};
-use crate::pool::run_all;
+use crate::pool::{run_all, seats_of};
 use crate::reports::{Part, Report, agrees, hold_same};
 use crate::workers::{Job, Post, Receiving};
 use mapdb_node::{Gate, Node, Seat};
 use mapdb_replica::Command;
-use std::alloc::Global;
+use std::alloc::{AllocError, Global};
 use std::sync::Wait;
 use std::thread::Threads;
 use std::vec::IntoIter;
@@ -67,17 +68,14 @@ fn run_scripts<R: Threads + Wait + Sync, G: Gate + Sync>(
 {
     let nodes = nodes_of(alloc, scripts.len() as u8)?;
     let posts = posts_of(rt, alloc, nodes.as_slice(), scripts.as_slice(), capacity)?;
-    let seats = run_all(rt, alloc, gate, posts)?;
+    let ends = run_all(rt, alloc, gate, posts)?;
+    let seats = seats_of(alloc, ends)?;
     let parts = parts_of(alloc, nodes, scripts.as_slice(), seats)?;
-    if !agrees(scripts.as_slice(), parts.as_slice()) {
-        return Err(WorkFault::Link);
-    }
-    hold_same(scripts.as_slice(), parts.as_slice());
-    Ok(Report { parts })
+    report_of(scripts.as_slice(), parts)
 }
 
 /// The nodes of so many processors.
-fn nodes_of(alloc: Global, count: u8) -> Result<Vec<Node>, WorkFault>
+fn nodes_of(alloc: Global, count: u8) -> Result<Vec<Node>, AllocError>
     requires { count ≤ MOST_PROCESSORS }
     ensures { IfOk result (λ nodes. length nodes.items ≡ count) }
 {
@@ -99,6 +97,7 @@ fn posts_of<'a, R: Wait>(
     requires count { length nodes.now ≤ MOST_PROCESSORS }
     requires some { 0 < capacity }
     requires most { capacity ≤ MOST_CAPACITY }
+    ensures fault { IfErr result IsSetupFault }
 {
     let count = nodes.len() as u8;
     let mut inboxes = inboxes_of(alloc, count)?;
@@ -127,7 +126,9 @@ fn add_receiving<'a, R: Wait>(
     posts: &mut Vec<Post<'a>>,
     node: &'a Node,
     inbox: Inbox,
-) -> Result<(), WorkFault> {
+) -> Result<(), WorkFault>
+    ensures fault { IfErr result IsSetupFault }
+{
     let Inbox {
         processor: _,
         links,
@@ -157,7 +158,9 @@ fn parts_of(
     nodes: Vec<Node>,
     scripts: &[Vec<Command>],
     seats: Vec<Seat>,
-) -> Result<Vec<Part>, WorkFault> {
+) -> Result<Vec<Part>, WorkFault>
+    ensures fault { IfErr result IsSetupFault }
+{
     let count = nodes.len();
     let mut seats = seats.into_iter();
     let mut parts = Vec::new(alloc);
@@ -173,7 +176,9 @@ fn next_seats(
     alloc: Global,
     seats: &mut IntoIter<Seat, Global>,
     count: usize,
-) -> Result<Vec<Seat>, WorkFault> {
+) -> Result<Vec<Seat>, WorkFault>
+    ensures fault { IfErr result IsSetupFault }
+{
     let mut own = Vec::with_capacity(alloc, count)?;
     for _ in 0..count {
         let Some(seat) = seats.next() else {
@@ -189,7 +194,7 @@ fn part_of(alloc: Global, node: Node, commands: usize, seats: Vec<Seat>) -> Resu
     ensures processor { IfOk result (λ part. part.processor ≡ node) }
     ensures commands { IfOk result (λ part. part.commands ≡ commands) }
     ensures seats { IfOk result (λ part. part.seats.items ≡ map (λ s. s.number) seats.items) }
-    ensures fault { IfErr result (λ fault. (fault ≡ WorkFault.Memory) ⊎ (fault ≡ WorkFault.Node NodeFault.Seats)) }
+    ensures fault { IfErr result IsSetupFault }
 {
     let mut numbers = Vec::with_capacity(alloc, seats.len())?;
     for seat in &seats {
@@ -204,4 +209,17 @@ fn part_of(alloc: Global, node: Node, commands: usize, seats: Vec<Seat>) -> Resu
         }),
         Err(_) => Err(WorkFault::Node(NodeFault::Seats)),
     }
+}
+
+/// The report of these parts, where they show the scripts and that each processor took what the others issued.
+fn report_of(scripts: &[Vec<Command>], parts: Vec<Part>) -> Result<Report, WorkFault>
+    ensures parts { IfOk result (λ report. AreParts (map (λ v. v.items) scripts.now) report.parts.items) }
+    ensures same { IfOk result (λ report. HoldSame report.parts.items) }
+    ensures fault { IfErr result (λ fault. fault ≡ WorkFault.Link) }
+{
+    if !agrees(scripts, parts.as_slice()) {
+        return Err(WorkFault::Link);
+    }
+    hold_same(scripts, parts.as_slice());
+    Ok(Report { parts })
 }

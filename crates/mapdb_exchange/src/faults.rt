@@ -39,6 +39,15 @@ pub enum RunFault {
     Link,
 }
 
+/// Why a worker was not started.
+#[derive(Clone, Copy, Debug, PartialEq, Eq)]
+pub(crate) enum Unstarted {
+    /// There was no memory to hold one that was started.
+    Memory,
+    /// The system gave no thread.
+    NoThread,
+}
+
 /// Why a worker ended early: what a run tells, but for a bad count.
 #[derive(Clone, Copy, Debug, PartialEq, Eq)]
 pub(crate) enum WorkFault {

@@ -1,7 +1,7 @@
 //! The issuing worker of a processor: it runs the script, and puts what is issued on the links.
 
-ghost use Rattle.std.specs.Prelude.{◌≡◌, ◌++◌, length, map, IfOk, OnOk};
-ghost use Rattle.mapdb_exchange.specs.Calls.{commands_in, issued_in};
+ghost use Rattle.std.specs.Prelude.{◌≡◌, ◌⊎◌, ◌++◌, length, map, IfErr, IfOk, OnOk};
+ghost use Rattle.mapdb_exchange.specs.Calls.{IsReadingFault, IsIssuingFault, commands_in, issued_in, own_in, place_after};
 ghost use Rattle.mapdb_exchange.specs.Finishing.{AreFinished, sent_on};
 
 use crate::faults::{NodeFault, WorkFault};
@@ -35,6 +35,7 @@ pub(crate) fn issue_all<R: Wait, G: Gate>(
 ) -> Result<Vec<Outgoing>, WorkFault>
     ensures finished { IfOk result (λ ends. AreFinished (map sent_on links.items) ends.items) }
     ensures commands { OnOk result (commands_in seat.new.calls ≡ commands_in seat.old.calls ++ script.now) }
+    ensures fault { IfErr result (λ fault. (fault ≡ WorkFault.Link) ⊎ IsIssuingFault fault) }
 {
     let mut links = links;
     let mut first = 0u32;
@@ -44,9 +45,7 @@ pub(crate) fn issue_all<R: Wait, G: Gate>(
         if count > 0 {
             let ops = own_ops(rt, alloc, node, seat, first, count)?;
             send_all(rt, alloc, links.as_mut_slice(), ops.as_slice())?;
-            first = first
-                .checked_add(count)
-                .ok_or(WorkFault::Node(NodeFault::Own))?;
+            first = place_after(first, count)?;
         }
     }
     finish_all(rt, alloc, links)
@@ -79,18 +78,35 @@ fn own_ops<R: Wait>(
 ) -> Result<Vec<Op>, WorkFault>
     ensures commands { OnOk result (commands_in seat.new.calls ≡ commands_in seat.old.calls) }
     ensures count { IfOk result (λ ops. length ops.items ≡ count) }
+    ensures fault { IfErr result IsReadingFault }
 {
     let mut ops = Vec::new(alloc);
     for step in 0..count {
-        let place = first
-            .checked_add(step)
-            .ok_or(WorkFault::Node(NodeFault::Own))?;
-        let NodeReply::Own(Some(op)) = node.call(rt, seat, NodeEvent::OwnAt(place))? else {
-            return Err(WorkFault::Node(NodeFault::Own));
-        };
-        ops.push(op)?;
+        let place = place_after(first, step)?;
+        let reply = node.call(rt, seat, NodeEvent::OwnAt(place))?;
+        ops.push(own_in(&reply)?)?;
     }
     Ok(ops)
+}
+
+/// The place so many places on, of an own operation. There is none beyond the places that a copy can have.
+fn place_after(first: u32, count: u32) -> Result<u32, WorkFault>
+    ensures { result ≡ place_after first count }
+{
+    match first.checked_add(count) {
+        Some(place) => Ok(place),
+        None => Err(WorkFault::Node(NodeFault::Own)),
+    }
+}
+
+/// The own operation that a reply tells.
+fn own_in(reply: &NodeReply) -> Result<Op, WorkFault>
+    ensures { result ≡ own_in reply.now }
+{
+    match *reply {
+        NodeReply::Own(Some(op)) => Ok(op),
+        _ => Err(WorkFault::Node(NodeFault::Own)),
+    }
 }
 
 /// Puts a batch with these operations on each link.
@@ -101,7 +117,8 @@ fn send_all<R: Wait>(
     links: &mut [BatchSender],
     ops: &[Op],
 ) -> Result<(), WorkFault>
-    ensures { map sent_on links.new ≡ map sent_on links.old }
+    ensures links { map sent_on links.new ≡ map sent_on links.old }
+    ensures fault { IfErr result (λ fault. (fault ≡ WorkFault.Link) ⊎ (fault ≡ WorkFault.Memory)) }
 {
     for at in 0..links.len() {
         let copied = Vec::from_slice(alloc, ops)?;
@@ -117,7 +134,8 @@ fn finish_all<R: Wait>(
     alloc: Global,
     links: Vec<BatchSender>,
 ) -> Result<Vec<Outgoing>, WorkFault>
-    ensures { IfOk result (λ ends. AreFinished (map sent_on links.items) ends.items) }
+    ensures finished { IfOk result (λ ends. AreFinished (map sent_on links.items) ends.items) }
+    ensures fault { IfErr result (λ fault. (fault ≡ WorkFault.Link) ⊎ (fault ≡ WorkFault.Memory)) }
 {
     let mut ends = Vec::with_capacity(alloc, links.len())?;
     for link in links {

@@ -2,11 +2,10 @@
 
 ghost use Rattle.std.specs.Prelude.{◌<◌, ◌≤◌};
 
-use crate::faults::WorkFault;
 use crate::links::{MOST_CAPACITY, link};
 use crate::receivers::BatchReceiver;
 use crate::senders::BatchSender;
-use std::alloc::Global;
+use std::alloc::{AllocError, Global};
 use std::sync::Wait;
 
 /// The ends of the links that lead to a processor, ascending by the processor that each hears.
@@ -17,7 +16,7 @@ pub(crate) struct Inbox {
 }
 
 /// The inboxes of so many processors, with no link.
-pub(crate) fn inboxes_of(alloc: Global, count: u8) -> Result<Vec<Inbox>, WorkFault> {
+pub(crate) fn inboxes_of(alloc: Global, count: u8) -> Result<Vec<Inbox>, AllocError> {
     let mut inboxes = Vec::new(alloc);
     for processor in 0..count {
         inboxes.push(Inbox {
@@ -36,7 +35,7 @@ pub(crate) fn outboxes_of<R: Wait>(
     count: u8,
     inboxes: &mut [Inbox],
     capacity: usize,
-) -> Result<Vec<Vec<BatchSender>>, WorkFault>
+) -> Result<Vec<Vec<BatchSender>>, AllocError>
     requires some { 0 < capacity }
     requires most { capacity ≤ MOST_CAPACITY }
 {
@@ -54,7 +53,7 @@ fn links_from<R: Wait>(
     from: u8,
     inboxes: &mut [Inbox],
     capacity: usize,
-) -> Result<Vec<BatchSender>, WorkFault>
+) -> Result<Vec<BatchSender>, AllocError>
     requires some { 0 < capacity }
     requires most { capacity ≤ MOST_CAPACITY }
 {
@@ -63,7 +62,7 @@ fn links_from<R: Wait>(
         let to = inbox.processor;
         if to != from {
             let Ok((outgoing, incoming)) = link(rt, alloc, capacity) else {
-                return Err(WorkFault::Memory);
+                return Err(AllocError);
             };
             links.push(BatchSender::new(from, to, outgoing))?;
             inbox.links.push(BatchReceiver::new(from, to, incoming))?;

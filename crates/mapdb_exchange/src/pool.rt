@@ -1,71 +1,99 @@
 //! Starts all workers side by side, and waits for all.
 
-ghost use Rattle.std.specs.Prelude.{◌≡◌, ◌⊎◌, ◌++◌, [], IfErr, IfOk, OnOk, map};
-ghost use Rattle.mapdb_exchange.specs.Faults.{IsFirst, listed};
+ghost use Rattle.std.specs.Prelude.{◌≡◌, ◌⊎◌, ◌++◌, [], None, length, IfErr, IfOk, OnOk, map};
+ghost use Rattle.mapdb_exchange.specs.Faults.{IsFirst, listed, missing};
 ghost use Rattle.mapdb_exchange.specs.Workers.{faults_of};
 
-use crate::faults::{WorkFault, first_fault};
+use crate::faults::{Unstarted, WorkFault, first_fault};
 use crate::workers::{Ended, Post, work};
 use mapdb_node::{Gate, Seat};
 use std::alloc::{AllocError, Global};
 use std::sync::Wait;
 use std::thread;
-use std::thread::{JoinHandle, Threads};
+use std::thread::{JoinHandle, Scope, Threads};
 
-/// Each worker in a thread of its own, all at the same time. Their seats come back in the order of the posts. Of several
-/// faults one is told, as [`first_fault`] says.
+/// The workers that were started, and why no more were, if that is so.
+#[derive(Drop)]
+struct Started {
+    handles: Vec<JoinHandle<Ended>>,
+    unstarted: Option<Unstarted>,
+}
+
+/// What the workers that were started ended with, in the order of their posts, and why no more were started, if that is so.
+#[derive(Drop)]
+pub(crate) struct Ends {
+    ended: Vec<Ended>,
+    unstarted: Option<Unstarted>,
+}
+
+/// Each worker in a thread of its own, all at the same time, until all have ended.
 pub(crate) fn run_all<R: Threads + Wait + Sync, G: Gate + Sync>(
     rt: &R,
     alloc: Global,
     gate: &G,
     posts: Vec<Post>,
-) -> Result<Vec<Seat>, WorkFault> {
+) -> Result<Ends, AllocError>
+    ensures { IfOk result (λ ends. ends.unstarted ≡ None → length ends.ended.items ≡ length posts.entry.items) }
+{
+    thread::scope(thread::scope_env(), rt, move |scope| {
+        let Started { handles, unstarted } = start_all(scope, rt, alloc, gate, posts)?;
+        let ended = join_all(rt, alloc, handles)?;
+        Ok(Ends { ended, unstarted })
+    })
+}
+
+/// Starts a worker for each post, until one cannot be started.
+fn start_all<'s, 'e: 's, R: Wait + Sync, G: Gate + Sync>(
+    scope: &Scope<'s, &'e ()>,
+    rt: &'e R,
+    alloc: Global,
+    gate: &'e G,
+    posts: Vec<Post<'e>>,
+) -> Result<Started, AllocError>
+    ensures { IfOk result (λ started. started.unstarted ≡ None → length started.handles.items ≡ length posts.entry.items) }
+{
     let mut handles = Vec::with_capacity(alloc, posts.len())?;
-    let ended = Vec::with_capacity(alloc, posts.len())?;
-    let (ended, unstarted) = thread::scope(thread::scope_env(), rt, move |scope| {
-        let mut unstarted = None;
-        for post in posts {
-            let Ok(handle) = scope.spawn(move || work(rt, alloc, gate, post)) else {
-                unstarted = Some(WorkFault::NoThread);
-                break;
-            };
-            if handles.push(handle).is_err() {
-                unstarted = Some(WorkFault::Memory);
-                break;
-            }
+    for post in posts {
+        let Ok(handle) = scope.spawn(move || work(rt, alloc, gate, post)) else {
+            let unstarted = Some(Unstarted::NoThread);
+            return Ok(Started { handles, unstarted });
+        };
+        if handles.push(handle).is_err() {
+            let unstarted = Some(Unstarted::Memory);
+            return Ok(Started { handles, unstarted });
         }
-        (join_all(rt, handles, ended), unstarted)
-    });
-    seats_of(alloc, ended?, unstarted)
+    }
+    let unstarted = None;
+    Ok(Started { handles, unstarted })
 }
 
 /// Waits for all workers.
 fn join_all<R: Threads>(
     rt: &R,
+    alloc: Global,
     handles: Vec<JoinHandle<Ended>>,
-    ended: Vec<Ended>,
-) -> Result<Vec<Ended>, WorkFault> {
-    let mut ended = ended;
+) -> Result<Vec<Ended>, AllocError>
+    ensures { IfOk result (λ ended. length ended.items ≡ length handles.items) }
+{
+    let mut ended = Vec::with_capacity(alloc, handles.len())?;
     for handle in handles {
         ended.push(handle.join(rt))?;
     }
     Ok(ended)
 }
 
-/// The seats of the workers where none ended early, else the fault that is told.
+/// The seats of all workers, in the order of the posts, where each was started and none ended early. Of several faults one is
+/// told, as [`first_fault`] says: that of a worker which was not started stands before those of the others.
 #[tactic(auto, using(crate::proofs::MetFaults::met_more, crate::proofs::MetFaults::seats_more))]
-fn seats_of(
-    alloc: Global,
-    ended: Vec<Ended>,
-    unstarted: Option<WorkFault>,
-) -> Result<Vec<Seat>, WorkFault>
-    ensures first { IfErr result (λ fault. (fault ≡ WorkFault.Memory) ⊎ IsFirst (listed unstarted ++ faults_of ended.items) fault) }
-    ensures none { OnOk result (listed unstarted ++ faults_of ended.items ≡ []) }
-    ensures seats { IfOk result (λ seats. seats.items ≡ map (λ e. e.seat) ended.items) }
+pub(crate) fn seats_of(alloc: Global, ends: Ends) -> Result<Vec<Seat>, WorkFault>
+    ensures first { IfErr result (λ fault. (fault ≡ WorkFault.Memory) ⊎ IsFirst (listed (missing ends.unstarted) ++ faults_of ends.ended.items) fault) }
+    ensures none { OnOk result (listed (missing ends.unstarted) ++ faults_of ends.ended.items ≡ []) }
+    ensures seats { IfOk result (λ seats. seats.items ≡ map (λ e. e.seat) ends.ended.items) }
 {
+    let Ends { ended, unstarted } = ends;
     let mut seats = Vec::with_capacity(alloc, ended.len())?;
     let mut faults = Vec::new(alloc);
-    put_fault(&mut faults, unstarted)?;
+    put_fault(&mut faults, missing(unstarted))?;
     for Ended { seat, fault } in ended {
         seats.push(seat)?;
         put_fault(&mut faults, fault)?;
@@ -73,6 +101,17 @@ fn seats_of(
     match first_fault(faults.as_slice()) {
         None => Ok(seats),
         Some(fault) => Err(fault),
+    }
+}
+
+/// The fault of a run in which not every worker was started.
+fn missing(unstarted: Option<Unstarted>) -> Option<WorkFault>
+    ensures { result ≡ missing unstarted }
+{
+    match unstarted {
+        None => None,
+        Some(Unstarted::Memory) => Some(WorkFault::Memory),
+        Some(Unstarted::NoThread) => Some(WorkFault::NoThread),
     }
 }
 

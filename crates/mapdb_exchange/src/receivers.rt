@@ -1,12 +1,12 @@
 //! Ends of links that receive the batches of a processor, which are taken into the copy of another.
 
-ghost use Rattle.std.specs.Prelude.{◌≡◌, ◌&&◌, ◌==◌, [], ◌++◌, IfOk, OnOk};
-ghost use Rattle.mapdb_exchange.specs.Calls.{held_in, ops_in, taken_in};
-ghost use Rattle.mapdb_exchange.specs.Links.{AreBatches, AreNumbered};
+ghost use Rattle.std.specs.Prelude.{◌≡◌, ◌⊎◌, true, [], ◌∷◌, ◌++◌, IfErr, IfOk, OnOk};
+ghost use Rattle.mapdb_exchange.specs.Calls.{IsTakingFault, held_in, ops_in, taken_in};
+ghost use Rattle.mapdb_exchange.specs.Links.{AreBatches, AreNumbered, is_expected};
 
 use crate::faults::{NodeFault, WorkFault};
 use crate::links::Incoming;
-use crate::messages::{Batch, Message};
+use crate::messages::Message;
 use mapdb_facts::Op;
 use mapdb_node::{Node, NodeEvent, NodeReply, Seat};
 use mapdb_replica::TakeFault;
@@ -43,19 +43,14 @@ impl BatchReceiver {
     ) -> Result<Incoming, WorkFault>
         ensures numbered { IfOk result (λ end. AreNumbered self.from self.to 0 end.received) }
         ensures taken { IfOk result (λ end. held_in seat.new.calls ≡ held_in seat.old.calls ++ ops_in end.received) }
+        ensures fault { IfErr result (λ fault. (fault ≡ WorkFault.Link) ⊎ IsTakingFault fault) }
     {
         let BatchReceiver { from, to, mut end } = self;
         let mut next = 0u32;
         for _ in rt.forever() {
-            let Ok(message) = end.next(rt) else {
-                return Err(WorkFault::Link);
-            };
-            let Message::Batch(batch) = message else {
+            let Message::Batch(batch) = next_message(&mut end, rt, from, to, next)? else {
                 return Ok(end);
             };
-            if !is_expected(&batch, from, to, next) {
-                return Err(WorkFault::Link);
-            }
             take_all(rt, node, seat, batch.ops.as_slice())?;
             next = next.checked_add(1).ok_or(WorkFault::Link)?;
         }
@@ -63,16 +58,38 @@ impl BatchReceiver {
     }
 }
 
-/// Whether the batch is of the link between these processors, and of this index.
-fn is_expected(batch: &Batch, from: u8, to: u8, index: u32) -> bool
-    ensures { result ≡ ((batch.now.from == from) && ((batch.now.to == to) && (batch.now.index == index))) }
+/// Receives Fin, or the batch of the link between these processors that has this index.
+fn next_message<R: Wait>(
+    end: &mut Incoming,
+    rt: &R,
+    from: u8,
+    to: u8,
+    index: u32,
+) -> Result<Message, WorkFault>
+    ensures received { IfOk result (λ message. end.new.received ≡ end.old.received ++ message ∷ []) }
+    ensures expected { IfOk result (λ message. is_expected from to index message ≡ true) }
+    ensures fault { IfErr result (λ fault. fault ≡ WorkFault.Link) }
 {
-    batch.from == from && batch.to == to && batch.index == index
+    match end.next(rt) {
+        Ok(message) if is_expected(&message, from, to, index) => Ok(message),
+        _ => Err(WorkFault::Link),
+    }
+}
+
+/// Whether the message is Fin, or a batch of the link between these processors with this index.
+fn is_expected(message: &Message, from: u8, to: u8, index: u32) -> bool
+    ensures { result ≡ is_expected from to index message.now }
+{
+    match message {
+        Message::Batch(batch) => batch.from == from && batch.to == to && batch.index == index,
+        Message::Fin => true,
+    }
 }
 
 /// Takes operations into a node, one by one. At Ok these were taken from the seat, in order, and are held.
 fn take_all<R: Wait>(rt: &R, node: &Node, seat: &mut Seat, ops: &[Op]) -> Result<(), WorkFault>
-    ensures { OnOk result (held_in seat.new.calls ≡ held_in seat.old.calls ++ ops.now) }
+    ensures taken { OnOk result (held_in seat.new.calls ≡ held_in seat.old.calls ++ ops.now) }
+    ensures fault { IfErr result IsTakingFault }
 {
     for op in ops {
         let reply = node.call(rt, seat, NodeEvent::Take(*op))?;

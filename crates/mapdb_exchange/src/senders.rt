@@ -31,7 +31,7 @@ impl Model for BatchSender {
 }
 
 impl BatchSender {
-    ghost use Rattle.std.specs.Prelude.{◌≡◌, ◌∷◌, ◌++◌, [], IfOk, OnOk};
+    ghost use Rattle.std.specs.Prelude.{◌≡◌, ◌∷◌, ◌++◌, [], IfErr, IfOk, OnOk};
     ghost use Rattle.mapdb_exchange.specs.Links.{AreNumbered, batch};
 
     /// Puts batches on a new link.
@@ -54,6 +54,7 @@ impl BatchSender {
         ensures from { self.new.from ≡ self.old.from }
         ensures to { self.new.to ≡ self.old.to }
         ensures link { self.new.end.link ≡ self.old.end.link }
+        ensures fault { IfErr result (λ fault. fault ≡ WorkFault.Link) }
     {
         let Some(next) = self.next.checked_add(1) else {
             return Err(WorkFault::Link);
@@ -76,6 +77,7 @@ impl BatchSender {
     pub(crate) fn finish<R: Wait>(self, rt: &R) -> Result<Outgoing, WorkFault>
         ensures numbered { IfOk result (λ end. AreNumbered self.from self.to 0 end.put) }
         ensures link { IfOk result (λ end. end.link ≡ self.end.link) }
+        ensures fault { IfErr result (λ fault. fault ≡ WorkFault.Link) }
     {
         let BatchSender {
             from: _,

@@ -1,5 +1,8 @@
 //! The workers of a processor: one issues, and one for each other processor receives.
 
+ghost use Rattle.std.specs.Prelude.{◌≡◌, None, IfSome};
+ghost use Rattle.mapdb_exchange.specs.Workers.{HasWorked, MayTell};
+
 use crate::faults::WorkFault;
 use crate::issuing::{Issuing, issue_all};
 use crate::receivers::BatchReceiver;
@@ -36,7 +39,10 @@ pub(crate) struct Ended {
 }
 
 /// Works, and gives the seat back. The ends of the links are dropped, so that no other worker waits for this one.
-pub(crate) fn work<R: Wait, G: Gate>(rt: &R, alloc: Global, gate: &G, post: Post) -> Ended {
+pub(crate) fn work<R: Wait, G: Gate>(rt: &R, alloc: Global, gate: &G, post: Post) -> Ended
+    ensures worked { result.fault ≡ None → HasWorked post.entry.job result.seat }
+    ensures fault { IfSome result.fault (MayTell post.entry.job) }
+{
     let Post { node, job } = post;
     match job {
         Job::Issue(

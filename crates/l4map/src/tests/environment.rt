@@ -3,7 +3,8 @@
 use super::streams::{Script, Transcript};
 use crate::environment::{ErrorSink, start};
 use std::env::FillError;
-use std::process::Abort;
+use std::io::Eprint;
+use std::process::{Abort, ExitCode, Termination};
 use std::rt::Env;
 use std::sync::Wait;
 use std::test::Fail;
@@ -41,7 +42,7 @@ const SCRIPT: &[u8] = b"processors 1\nend 0 9\n";
 const ROOM: usize = 65_536;
 
 /// Asserts which status the words come to, what is written, and what stands in what the errors are told.
-fn expect<R: AllocGlobal + Threads + Wait + Sync + Abort>(
+fn expect<R: AllocGlobal + Threads + Wait + Sync + Abort + Eprint>(
     rt: &R,
     words: &[&[u8]],
     wanted: (u8, &str, &str),
@@ -50,10 +51,10 @@ fn expect<R: AllocGlobal + Threads + Wait + Sync + Abort>(
     let mut writer = Transcript::new(rt.alloc(), ROOM);
     let mut errors = Transcript::new(rt.alloc(), ROOM);
     let environment = (Words { words }, rt.alloc());
-    let status = start(rt, &environment, &mut reader, &mut writer, &mut errors);
+    let status = start(rt, &environment, &mut reader, &mut writer, &mut errors).report(rt);
     let (wanted_status, output, told) = wanted;
     let text = String::from_utf8(errors.bytes)?;
-    assert_eq!(rt; status, wanted_status, "{text}");
+    assert_eq!(rt; status, ExitCode::from(wanted_status), "{text}");
     assert_eq!(rt; writer.bytes.as_slice(), output.as_bytes());
     assert!(rt; text.as_str().contains(told), "{text}");
     assert_eq!(rt; text.is_empty(), told.is_empty(), "{text}");
@@ -86,4 +87,33 @@ fn words_that_are_no_text(rt: HostRuntime) -> Result<(), Fail> {
     let told = "l4map: the command line is not UTF-8\n";
     expect(&rt, &[b"l4map", b"\xff"], (2, "", told))?;
     expect(&rt, &[b"l4map", b"run", b"\xc3"], (2, "", told))
+}
+
+/// How the program ends where it runs a script, after which its reader ends or fails.
+fn run_ends<R: AllocGlobal + Threads + Wait + Sync + Eprint>(
+    rt: &R,
+    script: &[u8],
+    fails: bool,
+) -> ExitCode {
+    let mut reader = if fails {
+        Script::failing(script)
+    } else {
+        Script::new(script)
+    };
+    let mut writer = Transcript::new(rt.alloc(), ROOM);
+    let mut errors = Transcript::new(rt.alloc(), ROOM);
+    let environment = (
+        Words {
+            words: &[b"l4map", b"run"],
+        },
+        rt.alloc(),
+    );
+    start(rt, &environment, &mut reader, &mut writer, &mut errors).report(rt)
+}
+
+#[test]
+fn statuses_are_reported(rt: HostRuntime) {
+    assert_eq!(rt; run_ends(&rt, SCRIPT, false), ExitCode::SUCCESS);
+    assert_eq!(rt; run_ends(&rt, b"end 0 9\n", false), ExitCode::from(1));
+    assert_eq!(rt; run_ends(&rt, SCRIPT, true), ExitCode::from(3));
 }

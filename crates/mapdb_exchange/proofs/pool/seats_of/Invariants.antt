@@ -1,10 +1,10 @@
 use Rattle.std.proofs.Common.{◌≡◌, ◌++◌, map}
-use Rattle.mapdb_exchange.specs.Faults.{listed}
+use Rattle.mapdb_exchange.specs.Faults.{listed, missing}
 use Rattle.mapdb_exchange.specs.Workers.{faults_of}
 use Rattle.mapdb_exchange.proofs.pool.seats_of.Given as goal
 
 abbrev pub invariant-loop-seat : goal.invariant-loop-seat
 invariant-loop-seat l = record {
-  faults : l.faults.items ≡ listed l.fn.unstarted ++ faults_of l.yielded;
+  faults : l.faults.items ≡ listed (missing l.fn.ends.unstarted) ++ faults_of l.yielded;
   seats : l.seats.items ≡ map (λ e. e.seat) l.yielded;
 }
