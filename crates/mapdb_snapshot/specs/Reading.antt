@@ -4,7 +4,6 @@ use Rattle.std.specs.Str.{is_utf8}
 use Rattle.serde_json.specs.Data.{Data, Items, Members, item, member, no_items, no_members}
 use Rattle.serde_json.specs.Find.{as_array, as_number, as_object, as_u64, get_item, get_member}
 use Rattle.serde_json.specs.Read.{read}
-use Rattle.mapdb_fpage.specs.Addresses.{place_at}
 use Rattle.mapdb_fpage.specs.Bounds.{page_bytes}
 use Rattle.mapdb_fpage.specs.Place.{Place}
 use Rattle.mapdb_fpage.specs.RightSets.{rights_of_bits}
@@ -16,7 +15,8 @@ use Rattle.mapdb_facts.specs.declared.operations.Op.{Op}
 use Rattle.mapdb_facts.specs.declared.operations.Op.TheVariants.{Born, Closed, Cut}
 use Rattle.mapdb_snapshot.specs.declared.faults.SnapshotFault.{SnapshotFault}
 use Rattle.mapdb_snapshot.specs.declared.faults.SnapshotFault.TheVariants as fault
-use Rattle.mapdb_snapshot.specs.declared.faults.TheConstants.{SNAPSHOT_VERSION}
+use Rattle.mapdb_snapshot.specs.declared.forms.Form.{Form}
+use Rattle.mapdb_snapshot.specs.Forms.{form_of, place_within}
 
 infixl 10 ◌>>=◌
 -- one step after the other, up to the first fault
@@ -77,9 +77,9 @@ pub record Unplaced : Type 0 where
   pub page : ℕ
   pub order : ℕ
 
-abbrev pub unplaced_at : ℕ → Items → Result Unplaced SnapshotFault
-unplaced_at place row = do
-  page ← number_at place (2 ^ 32) row
+abbrev pub unplaced_at : Form → ℕ → Items → Result Unplaced SnapshotFault
+unplaced_at form place row = do
+  page ← number_at place (form.most_page + 1) row
   order ← number_at (place + 1) 256 row
   Ok (record { page = page; order = order })
 
@@ -89,14 +89,14 @@ pub record Somewhere (A : Type 0) : Type 0 where
   pub value : Place → A
 
 -- [number, processor, space, page, s, parent number, parent processor, source page, rights]
-abbrev pub record_of : Data → Result (Somewhere Op) SnapshotFault
-record_of d = do
+abbrev pub record_of : Form → Data → Result (Somewhere Op) SnapshotFault
+record_of form d = do
   row ← row_of 9 d
   id ← name_at 0 row
   space ← space_at 2 row
-  place ← unplaced_at 3 row
+  place ← unplaced_at form 3 row
   parent ← name_at 5 row
-  source ← number_at 7 (2 ^ 32) row
+  source ← number_at 7 (form.most_source + 1) row
   rights ← rights_at 8 row
   Ok (record {
     place = place;
@@ -104,11 +104,11 @@ record_of d = do
   })
 
 -- [number, processor, page, s, rights]
-abbrev pub cut_of : Data → Result (Somewhere Op) SnapshotFault
-cut_of d = do
+abbrev pub cut_of : Form → Data → Result (Somewhere Op) SnapshotFault
+cut_of form d = do
   row ← row_of 5 d
   target ← name_at 0 row
-  place ← unplaced_at 2 row
+  place ← unplaced_at form 2 row
   rights ← rights_at 4 row
   Ok (record { place = place; value = λ at. Cut (record { target = target; part = at; rights = rights }) })
 
@@ -134,34 +134,37 @@ or_page value (Ok place) = Ok (value place)
 or_page value (Err f) = Err (fault.Page f)
 
 -- the values at their places, or the fault of the first place that is none
-abbrev pub placed_all : {A : Type 0} → List (Somewhere A) → Result (List A) SnapshotFault
-placed_all [] = Ok []
-placed_all (one ∷ rest) = do
-  first ← or_page one.value (place_at (one.place.page * page_bytes) one.place.order)
-  others ← placed_all rest
+abbrev pub placed_all : {A : Type 0} → Form → List (Somewhere A) → Result (List A) SnapshotFault
+placed_all form [] = Ok []
+placed_all form (one ∷ rest) = do
+  first ← or_page one.value (place_within form.top_order form.address_limit (one.place.page * page_bytes) one.place.order)
+  others ← placed_all form rest
   Ok (first ∷ others)
 
 abbrev pub version_of : Members → Result ℕ SnapshotFault
 version_of members = or_shape (get_member (codes "version") members) >>= whole_below (2 ^ 64)
 
--- the lists of a snapshot of this version, in which no other key stands
-abbrev pub lists_of : Members → Result (List Op) SnapshotFault
-lists_of members = do
-  cuts ← list_under (codes "cuts") cut_of members
+-- the lists of a snapshot of this form, in which no other key stands
+abbrev pub lists_of : Form → Members → Result (List Op) SnapshotFault
+lists_of form members = do
+  cuts ← list_under (codes "cuts") (cut_of form) members
   ends ← list_under (codes "ended") end_of members
-  records ← list_under (codes "records") record_of members
-  born ← placed_all records
-  cut ← placed_all cuts
+  records ← list_under (codes "records") (record_of form) members
+  born ← placed_all form records
+  cut ← placed_all form cuts
   Ok (born ++ cut ++ ends)
+
+-- the lists, where the version is read and no other key stands
+abbrev pub read_as : Option Form → Members → Result (List Op) SnapshotFault
+read_as None found = Err fault.Version
+read_as (Some form) found = if members_count found == 4 then lists_of form found else Err fault.Shape
 
 -- What JSON says as a snapshot: the records, then the revocations, then the ends, each in the order of the text.
 abbrev pub operations_of : Data → Result (List Op) SnapshotFault
 operations_of d = do
   members ← or_shape (as_object d)
   version ← version_of members
-  if version == SNAPSHOT_VERSION
-      then (if members_count members == 4 then lists_of members else Err fault.Shape)
-      else Err fault.Version
+  read_as (form_of version) members
 
 abbrev pub or_not_json : Option Data → Result (List Op) SnapshotFault
 or_not_json None = Err fault.NotJson

@@ -82,8 +82,8 @@ fn expect_rights(
     cluster: &Cluster,
     at: u8,
     number: u16,
-    page: u32,
-    wanted: &[(u32, u8)],
+    page: u64,
+    wanted: &[(u64, u8)],
 ) -> Result<(), Fail> {
     let copy = cluster.copy(at).ok_or("a processor")?;
     let pairs = copy.rights(space(number), page)?;

@@ -24,12 +24,12 @@ fn expect<T: Copy + Debug + PartialEq>(rt: &impl Abort, found: T, wanted: T) {
 }
 
 /// The place of one page.
-fn place(page: u32) -> Option<Fpage> {
-    Fpage::new(u64::from(page) * u64::from(PAGE_BYTES), 12).ok()
+fn place(page: u64) -> Option<Fpage> {
+    Fpage::new(page.checked_mul(PAGE_BYTES)?, 12).ok()
 }
 
 /// Maps a page of the first space to the same page of another space, with all rights.
-fn map(page: u32, to: u16) -> NodeEvent {
+fn map(page: u64, to: u16) -> NodeEvent {
     NodeEvent::Issue(Command::Map {
         sender: Space::FIRST,
         item: MapItem {
@@ -43,7 +43,7 @@ fn map(page: u32, to: u16) -> NodeEvent {
 }
 
 /// What a page of a space is served from.
-fn served(page: u32, number: u16) -> NodeEvent {
+fn served(page: u64, number: u16) -> NodeEvent {
     NodeEvent::Served {
         space: Space { number },
         page,
@@ -51,7 +51,7 @@ fn served(page: u32, number: u16) -> NodeEvent {
 }
 
 /// Maps a page to a space, and reads it back. Answers whether it is there.
-fn map_and_read<R: Wait>(rt: &R, node: &Node, seat: &mut Seat, page: u32, to: u16) -> bool {
+fn map_and_read<R: Wait>(rt: &R, node: &Node, seat: &mut Seat, page: u64, to: u16) -> bool {
     let mapped = node.call(rt, seat, map(page, to));
     let read = node.call(rt, seat, served(page, to));
     matches!(mapped, Ok(NodeReply::Issued { count: 1, .. }))
@@ -62,7 +62,7 @@ fn map_and_read<R: Wait>(rt: &R, node: &Node, seat: &mut Seat, page: u32, to: u1
 fn work<R: Wait>(rt: &R, node: &Node, seat: &mut Seat, thread: u8) -> bool {
     let mut all_there = true;
     for turn in 0..100 {
-        let page = 100 * u32::from(thread) + turn;
+        let page = 100 * u64::from(thread) + turn;
         all_there &= map_and_read(rt, node, seat, page, u16::from(thread) + 1);
     }
     all_there

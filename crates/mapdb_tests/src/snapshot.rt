@@ -24,7 +24,7 @@ fn place(addr: u64, s: u8) -> Fpage {
 }
 
 /// A record with all rights, into the space of its number.
-fn born(number: u16, addr: u64, s: u8, parent: RecordId, source: u32) -> Op {
+fn born(number: u16, addr: u64, s: u8, parent: RecordId, source: u64) -> Op {
     Op::Born(Record {
         id: id(number as u64),
         space: Space { number },
@@ -56,7 +56,7 @@ fn expect_text(rt: &impl Abort, alloc: Global, ops: &[Op], wanted: &str) -> Resu
 
 #[test]
 fn empty_copy(rt: HostRuntime) -> Result<(), Fail> {
-    let wanted = r#"{"cuts":[],"ended":[],"records":[],"version":1}"#;
+    let wanted = r#"{"cuts":[],"ended":[],"records":[],"version":2}"#;
     expect_text(&rt, rt.alloc(), &[], wanted)
 }
 
@@ -72,7 +72,7 @@ fn runs_are_cut_into_the_largest_places(rt: HostRuntime) -> Result<(), Fail> {
     ];
     let wanted = concat!(
         r#"{"cuts":[[1,0,3,12,2],[1,0,4,14,2],[1,0,8,12,2]],"ended":[],"#,
-        r#""records":[[1,0,1,0,16,0,0,0,7]],"version":1}"#
+        r#""records":[[1,0,1,0,16,0,0,0,7]],"version":2}"#
     );
     expect_text(&rt, rt.alloc(), &ops, wanted)
 }
@@ -89,7 +89,7 @@ fn one_page_of_four_flushed(rt: HostRuntime) -> Result<(), Fail> {
     ];
     let wanted = concat!(
         r#"{"cuts":[[1,0,65,12,7],[2,0,129,12,7]],"ended":[3,9],"#,
-        r#""records":[[1,0,1,64,14,0,0,16,7],[2,0,2,128,14,1,0,64,7]],"version":1}"#
+        r#""records":[[1,0,1,64,14,0,0,16,7],[2,0,2,128,14,1,0,64,7]],"version":2}"#
     );
     expect_text(&rt, rt.alloc(), &ops, wanted)
 }

@@ -20,8 +20,13 @@ fn place(addr: u64, order: u8) -> Option<Fpage> {
     Fpage::new(addr, order).ok()
 }
 
+/// The complete space.
+fn everything() -> Option<Fpage> {
+    Some(Fpage::complete())
+}
+
 /// A row with all rights.
-fn row(number: u16, page: u32, count: u32, frame: u32) -> TableRow {
+fn row(number: u16, page: u64, count: u64, frame: u64) -> TableRow {
     TableRow {
         space: space(number),
         page,
@@ -70,7 +75,7 @@ fn expect_rows<R: Abort + Threads + Sync>(
 #[test]
 fn flush_one_page_of_four(rt: HostRuntime) -> Result<(), Fail> {
     let mut wanted = Vec::new(rt.alloc());
-    wanted.push(row(0, 0, 1 << 20, 0))?;
+    wanted.push(row(0, 0, 1 << 36, 0))?;
     wanted.push(row(1, 0x40, 1, 0x10))?;
     wanted.push(row(1, 0x42, 2, 0x12))?;
     wanted.push(row(2, 0x80, 1, 0x10))?;
@@ -103,7 +108,7 @@ fn many_spaces(rt: HostRuntime) -> Result<(), Fail> {
     let mut copy = Replica::new(rt.alloc(), 0);
     map_into_many(&rt, &mut copy, 3000);
     let mut wanted = Vec::new(rt.alloc());
-    wanted.push(row(0, 0, 1 << 20, 0))?;
+    wanted.push(row(0, 0, 1 << 36, 0))?;
     for number in 1..=3000u16 {
         wanted.push(row(number, 0x20, 1, 0x10))?;
     }
@@ -125,9 +130,38 @@ fn many_spaces_are_found(rt: HostRuntime) -> Result<(), Fail> {
 }
 
 #[test]
+fn one_row_of_all_pages(rt: HostRuntime) -> Result<(), Fail> {
+    let copy = Replica::new(rt.alloc(), 0);
+    expect_rows(&rt, rt.alloc(), &copy, &[row(0, 0, 1 << 36, 0)]);
+    let rows = build_plain(rt.alloc(), &copy)?;
+    let last = (1 << 36) - 1;
+    assert_eq!(rt;
+        find(rows.as_slice(), space(0), last),
+        Some((last, Rights::ALL))
+    );
+    assert_eq!(rt; find(rows.as_slice(), space(0), 1 << 36), None);
+    Ok(())
+}
+
+#[test]
+fn rows_of_complete_spaces(rt: HostRuntime) -> Result<(), Fail> {
+    let mut wanted = Vec::new(rt.alloc());
+    wanted.push(row(0, 0, 1 << 36, 0))?;
+    wanted.push(row(1, 0, (1 << 36) - 1, 0))?;
+    let mut copy = Replica::new(rt.alloc(), 0);
+    map(&rt, &mut copy, 0, everything(), 1, everything());
+    assert!(rt;
+        copy.unmap(space(1), place(0xffff_ffff_f000, 12), Rights::ALL, true)
+            .is_ok()
+    );
+    expect_rows(&rt, rt.alloc(), &copy, wanted.as_slice());
+    Ok(())
+}
+
+#[test]
 fn least_record_serves(rt: HostRuntime) -> Result<(), Fail> {
     let mut wanted = Vec::new(rt.alloc());
-    wanted.push(row(0, 0, 1 << 20, 0))?;
+    wanted.push(row(0, 0, 1 << 36, 0))?;
     wanted.push(row(1, 0x20, 1, 0x10))?;
     let mut copy = Replica::new(rt.alloc(), 0);
     map(&rt, &mut copy, 0, place(0x10000, 12), 1, place(0x20000, 12));

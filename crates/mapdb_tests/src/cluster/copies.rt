@@ -134,7 +134,7 @@ fn refuse_all(rt: &impl Abort, copy: &mut Replica, commands: &[(Command, IssueFa
 }
 
 /// Asserts what a page of a space has, with rights as bits.
-fn expect_rights(rt: &impl Abort, copy: &Replica, number: u16, page: u32, wanted: &[(u32, u8)]) {
+fn expect_rights(rt: &impl Abort, copy: &Replica, number: u16, page: u64, wanted: &[(u64, u8)]) {
     match copy.rights(space(number), page) {
         Ok(pairs) => {
             assert_eq!(rt; pairs.len(), wanted.len());
@@ -147,7 +147,7 @@ fn expect_rights(rt: &impl Abort, copy: &Replica, number: u16, page: u32, wanted
 }
 
 /// Asserts of pages of spaces that they have nothing, or a frame with rights as bits and no other.
-fn expect_pages(rt: &impl Abort, copy: &Replica, pages: &[(u16, u32, Option<(u32, u8)>)]) {
+fn expect_pages(rt: &impl Abort, copy: &Replica, pages: &[(u16, u64, Option<(u64, u8)>)]) {
     for (number, page, wanted) in pages {
         match wanted {
             Some(pair) => expect_rights(rt, copy, *number, *page, &[*pair]),

@@ -10,13 +10,13 @@ fn lines_say_commands(rt: HostRuntime) -> Result<(), Fail> {
     let first = Space { number: 0 };
     let second = Space { number: 65535 };
     let item = MapItem {
-        send_base: 0xffff_ffff,
+        send_base: u64::MAX,
         page: Some(Fpage::new(0x10000, 14)?),
         rights: Rights::ALL,
     };
     let map = Line::Map(255, first, item, second, None);
     assert_eq!(rt;
-        parse_line(b" map  255 0 10000/14:rwx FFffFFff 65535 nil \r"),
+        parse_line(b" map  255 0 10000/14:rwx FFffFFffFFffFFff 65535 nil \r"),
         Ok(Some(map))
     );
     let window = Some(Fpage::complete());
@@ -40,12 +40,12 @@ fn lines_say_queries(rt: HostRuntime) {
         Ok(Some(Line::Processors(7)))
     );
     assert_eq!(rt;
-        parse_line(b"rights 1 65535 fffff000"),
-        Ok(Some(Line::Rights(1, second, 0xffff_f000)))
+        parse_line(b"rights 1 65535 fffffffff000"),
+        Ok(Some(Line::Rights(1, second, 0xffff_ffff_f000)))
     );
     assert_eq!(rt;
-        parse_line(b"served 1 65535 fffff000"),
-        Ok(Some(Line::Served(1, second, 0xffff_f000)))
+        parse_line(b"served 1 65535 100000000"),
+        Ok(Some(Line::Served(1, second, 0x1_0000_0000)))
     );
     for (line, said) in [
         (
@@ -84,9 +84,9 @@ const FAULTY: [(&[u8], LineFault); 44] = [
     (b"processors 000000000000000000001", LineFault::Number),
     (b"rights 0 65536 0", LineFault::Number),
     (b"rights 0 0 0x1", LineFault::Number),
-    (b"rights 0 0 000000000", LineFault::Number),
+    (b"rights 0 0 00000000000000000", LineFault::Number),
     (b"served 256 65536 0", LineFault::Number),
-    (b"served 0 0 100000000", LineFault::Number),
+    (b"served 0 0 1000000000000", LineFault::Number),
     (b"sent 0 0 0", LineFault::Unknown),
     (b"send 0 0", LineFault::Words),
     (b"deliver 0 0 0", LineFault::Words),

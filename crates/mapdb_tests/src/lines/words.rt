@@ -10,13 +10,13 @@ fn words_say_a_map(rt: HostRuntime) -> Result<(), Fail> {
     let first = Space { number: 0 };
     let second = Space { number: 65535 };
     let item = MapItem {
-        send_base: 0xffff_fc00,
+        send_base: 0xffff_ffff_ffff_fc00,
         page: Some(Fpage::new(0x10000, 14)?),
         rights: Rights::ALL,
     };
     let window = Some(Fpage::complete());
     assert_eq!(rt;
-        parse_line(b" words  255 0 FFffFC09 100e7 65535 17 \r"),
+        parse_line(b" words  255 0 FFffFFffFFffFC09 100e7 65535 17 \r"),
         Ok(Some(Line::Map(255, first, item, second, window)))
     );
     Ok(())
@@ -29,8 +29,8 @@ fn words_are_decoded_in_order(rt: HostRuntime) {
         (b"words 0 0 800a 100e6 1", LineFault::Words),
         (b"words 256 x 800a 100e6 1 10 x", LineFault::Words),
         (b"words 0 65536 800a 100e6 1 10", LineFault::Number),
-        (b"words 0 0 100008008 100e6 1 10", LineFault::Number),
-        (b"words 0 0 800a 0000100e6 1 10", LineFault::Number),
+        (b"words 0 0 10000000000008008 100e6 1 10", LineFault::Number),
+        (b"words 0 0 800a 000000000000100e6 1 10", LineFault::Number),
         (b"words 0 0 800a 0x100e6 1 10", LineFault::Number),
         (b"words 0 0 8000 100ee x 400", LineFault::NotMapItem),
         (b"words 0 0 801a 100ee x 400", LineFault::Grant),
@@ -40,9 +40,12 @@ fn words_are_decoded_in_order(rt: HostRuntime) {
         (b"words 0 0 8008 4c4 x 400", LineFault::Unaligned),
         (b"words 0 0 8008 100e6 x 400", LineFault::Number),
         (b"words 0 0 8008 100e6 1 x", LineFault::Number),
-        (b"words 0 0 8008 100e6 1 000000010", LineFault::Number),
+        (
+            b"words 0 0 8008 100e6 1 00000000000000010",
+            LineFault::Number,
+        ),
         (b"words 0 0 8008 100e6 1 400", LineFault::TooSmall),
-        (b"words 0 0 8008 100e6 1 21f", LineFault::TooLarge),
+        (b"words 0 0 8008 100e6 1 31f", LineFault::TooLarge),
         (b"words 0 0 8008 100e6 1 10df", LineFault::Unaligned),
     ] {
         assert_eq!(rt; parse_line(line), Err(fault), "{line:?}");

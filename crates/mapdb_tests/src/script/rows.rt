@@ -216,8 +216,9 @@ fn occupied_destination(rt: HostRuntime) -> Result<(), Fail> {
 fn faulty_places(rt: HostRuntime) -> Result<(), Fail> {
     for (place, fault, name) in [
         ("10000/11", LineFault::TooSmall, "too-small"),
-        ("10000/33", LineFault::TooLarge, "too-large"),
-        ("100000000/12", LineFault::OutOfSpace, "out-of-space"),
+        ("10000/49", LineFault::TooLarge, "too-large"),
+        ("1000000000000/12", LineFault::OutOfSpace, "out-of-space"),
+        ("10000/33", LineFault::Unaligned, "unaligned"),
         ("1000/13", LineFault::Unaligned, "unaligned"),
     ] {
         let script = format!(in rt.alloc(); "processors 1\nmap 0 0 {place}:rw- 0 1 all\n")?;
@@ -225,6 +226,53 @@ fn faulty_places(rt: HostRuntime) -> Result<(), Fail> {
         stops(&rt, rt.alloc(), script.as_str(), 2, fault, output.as_str())?;
     }
     Ok(())
+}
+
+#[test]
+fn a_place_above_four_gigabytes(rt: HostRuntime) -> Result<(), Fail> {
+    writes(
+        &rt,
+        rt.alloc(),
+        4,
+        "processors 1\n\
+        map 0 0 100000000/12:rw- 0 1 100000000/12\n\
+        rights 0 1 100000000\n\
+        rights 0 1 0\n",
+        "records 1.0\n\
+        rights 100000:rw-\n\
+        rights none\n",
+    )
+}
+
+#[test]
+fn wide_addresses(rt: HostRuntime) -> Result<(), Fail> {
+    stops(
+        &rt,
+        rt.alloc(),
+        "processors 1\n\
+        map 0 0 all:rwx 0 1 all\n\
+        rights 0 1 fffffffff000\n\
+        map 0 0 10000/14:rw- 1fedcba984000 2 all\n\
+        rights 0 2 fedcba987000\n\
+        tree 2 fedcba987000\n\
+        table 0\n\
+        load 0 {\"cuts\":[],\"ended\":[],\"records\":[[9,1,3,0,32,0,0,0,7]],\"version\":1}\n\
+        rights 0 3 fffff000\n\
+        rights 0 3 100000000\n\
+        rights 0 1 1000000000000\n",
+        11,
+        LineFault::Number,
+        "records 1.0\n\
+        rights fffffffff:rwx\n\
+        records 2.0\n\
+        rights 00013:rw-\n\
+        tree not comparable\n\
+        table 3\nrow 0 00000 68719476736 00000:rwx\nrow 1 00000 68719476736 00000:rwx\nrow 2 fedcba984 4 00010:rw-\n\
+        taken 1\n\
+        rights fffff:rwx\n\
+        rights none\n\
+        line 11 fault number\n",
+    )
 }
 
 #[test]

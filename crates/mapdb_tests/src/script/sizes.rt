@@ -64,7 +64,7 @@ fn snapshot(alloc: Global, records: u32, cuts: u32, ends: u32) -> Result<String,
     for page in 1..=records {
         text.push_str(format!(in alloc; "[{page},0,1,{page},12,0,0,{page},7],")?.as_str())?;
     }
-    closed(text, "],\"version\":1}")
+    closed(text, "],\"version\":2}")
 }
 
 #[test]
@@ -90,6 +90,38 @@ fn a_full_copy_is_told(rt: HostRuntime) -> Result<(), Fail> {
     ])?;
     texts.add("save 2", saved.as_str())?;
     texts.add(load.as_str(), "taken 0")?;
+    gives(&rt, alloc, texts.script.as_str(), texts.output.as_str())
+}
+
+/// The snapshot of a chain as long as a copy can hold: each record of the last page is the parent of the next, each in a space of
+/// its own but two.
+fn chain(alloc: Global) -> Result<String, AllocError> {
+    let mut text = String::new(alloc);
+    text.push_str("{\"cuts\":[],\"ended\":[],\"records\":[")?;
+    for number in 1..=65_536u64 {
+        let parent = number - 1;
+        let space = parent % 65_535 + 1;
+        let row = format!(in alloc;
+            "[{number},0,{space},68719476735,12,{parent},0,68719476735,7],"
+        )?;
+        text.push_str(row.as_str())?;
+    }
+    closed(text, "],\"version\":2}")
+}
+
+#[test]
+fn the_deepest_chain_at_the_last_page(rt: HostRuntime) -> Result<(), Fail> {
+    let alloc = rt.alloc();
+    let load = format!(in alloc; "load 0 {}", chain(alloc)?)?;
+    let mut texts = Texts::new(alloc);
+    texts.script.push_str("processors 1\n")?;
+    texts.add(load.as_str(), "taken 65536")?;
+    texts.add_all(&[
+        ("rights 0 1 fffffffff000", "rights fffffffff:rwx"),
+        ("served 0 65535 fffffffff000", "served fffffffff:rwx"),
+        ("unmap 0 0 fffffffff000/12:rwx flush", "refused full"),
+        ("end 0 9", "refused full"),
+    ])?;
     gives(&rt, alloc, texts.script.as_str(), texts.output.as_str())
 }
 
@@ -134,7 +166,7 @@ fn add_commands(alloc: Global, texts: &mut Texts) -> Result<(), AllocError> {
 /// The translation table of what the commands leave.
 fn table(alloc: Global) -> Result<String, AllocError> {
     let count = PAGES + 1;
-    let mut text = format!(in alloc; "table {count}\nrow 0 00000 1048576 00000:rwx")?;
+    let mut text = format!(in alloc; "table {count}\nrow 0 00000 68719476736 00000:rwx")?;
     for page in 1..=PAGES {
         let rights = if page % 2 == 0 { "r-x" } else { "rwx" };
         text.push_str(format!(in alloc; "\nrow 1 {page:05x} 1 {page:05x}:{rights}")?.as_str())?;
@@ -153,9 +185,9 @@ fn many_commands(rt: HostRuntime) -> Result<(), Fail> {
         ("tree 1 3e7000", "tree 003e7:rwx"),
         ("tree 1 3e8000", "tree 003e8:r-x"),
         ("tree 1 3e9000", "tree none"),
-        ("map 0 0 all:rwx 0 2 all", "records 1001.0"),
+        ("map 0 0 0/32:rwx 0 2 0/32", "records 1001.0"),
         ("tree 2 3e8000", "tree 003e8:rwx"),
-        ("unmap 0 0 all:-w- keep", "revocations 501"),
+        ("unmap 0 0 0/32:-w- keep", "revocations 501"),
         ("tree 2 fffff000", "tree fffff:r-x"),
     ])?;
     gives(&rt, alloc, texts.script.as_str(), texts.output.as_str())

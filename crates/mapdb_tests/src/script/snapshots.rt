@@ -6,7 +6,7 @@ use std::test::Fail;
 
 /// The snapshot of a copy in which one page of four was flushed.
 const ONE_OF_FOUR: &str = "{\"cuts\":[[1,0,65,12,7],[2,0,129,12,7]],\"ended\":[],\
-    \"records\":[[1,0,1,64,14,0,0,16,7],[2,0,2,128,14,1,0,64,7]],\"version\":1}";
+    \"records\":[[1,0,1,64,14,0,0,16,7],[2,0,2,128,14,1,0,64,7]],\"version\":2}";
 
 /// A script that loads texts which are no snapshots, and what it writes.
 const NO_SNAPSHOTS: (&str, &str) = (
@@ -42,7 +42,7 @@ const REFUSED_BATCHES: (&str, &str) = (
     [5,0,1,64,12,5,1,16,7]],\"version\":1}\n\
     load 0 {\"cuts\":[],\"ended\":[],\"records\":[[1,0,1,64,13,0,0,17,7]],\"version\":1}\n\
     load 0 {\"cuts\":[],\"ended\":[],\"records\":[[1,0,0,64,12,0,0,16,7]],\"version\":1}\n\
-    load 0 {\"cuts\":[],\"ended\":[],\"records\":[[1,0,1,64,12,0,0,1048576,7]],\"version\":1}\n\
+    load 0 {\"cuts\":[],\"ended\":[],\"records\":[[1,0,1,64,12,0,0,68719476736,7]],\"version\":2}\n\
     load 0 {\"cuts\":[],\"ended\":[],\"records\":[[3,0,1,64,12,0,0,16,7],[3,0,1,64,12,0,0,17,7],\
     [2,1,1,64,12,0,0,16,7],[2,1,1,64,12,0,0,17,7]],\"version\":1}\n",
     "refused bad 0 bad-number\n\
@@ -52,6 +52,39 @@ const REFUSED_BATCHES: (&str, &str) = (
     refused bad 0 root-space\n\
     refused bad 0 page-out-of-space\n\
     refused clash 2.1\n",
+);
+
+/// A script that loads texts of both versions, and what it writes: the first version has its old bounds.
+const BOTH_VERSIONS: (&str, &str) = (
+    "processors 1\n\
+    load 0 {\"cuts\":[[1,0,1,33,7]],\"ended\":[],\"records\":[],\"version\":1}\n\
+    load 0 {\"cuts\":[[1,0,1048576,12,7]],\"ended\":[],\"records\":[],\"version\":1}\n\
+    load 0 {\"cuts\":[],\"ended\":[],\"records\":[[1,0,1,64,12,0,0,1048576,7]],\"version\":1}\n\
+    load 0 {\"cuts\":[],\"ended\":[],\"records\":[[1,0,1,0,32,0,0,0,7]],\"version\":1}\n\
+    rights 0 1 fffff000\n\
+    rights 0 1 100000000\n\
+    load 0 {\"cuts\":[[1,0,1,49,7]],\"ended\":[],\"records\":[],\"version\":2}\n\
+    load 0 {\"cuts\":[[1,0,68719476736,12,7]],\"ended\":[],\"records\":[],\"version\":2}\n\
+    load 0 {\"cuts\":[[1,0,4503599627370495,12,7]],\"ended\":[],\"records\":[],\"version\":2}\n\
+    load 0 {\"cuts\":[[1,0,4503599627370496,12,7]],\"ended\":[],\"records\":[],\"version\":2}\n\
+    load 0 {\"cuts\":[[1,0,1,33,7]],\"ended\":[],\"records\":[],\"version\":2}\n\
+    load 0 {\"cuts\":[],\"ended\":[],\"records\":[[2,0,2,0,48,0,0,0,7]],\"version\":2}\n\
+    rights 0 2 fffffffff000\n\
+    load 0 {\"cuts\":[],\"ended\":[],\"records\":[],\"version\":0}\n",
+    "refused snapshot too-large\n\
+    refused snapshot out-of-space\n\
+    refused snapshot shape\n\
+    taken 1\n\
+    rights fffff:rwx\n\
+    rights none\n\
+    refused snapshot too-large\n\
+    refused snapshot out-of-space\n\
+    refused snapshot out-of-space\n\
+    refused snapshot shape\n\
+    refused snapshot unaligned\n\
+    taken 1\n\
+    rights fffffffff:rwx\n\
+    refused snapshot version\n",
 );
 
 #[test]
@@ -67,7 +100,7 @@ fn flush_one_page_of_four(rt: HostRuntime) -> Result<(), Fail> {
         rights 0 2 82000\n\
         save 0\n\
         load 1  {\"cuts\":[[1,0,65,12,7],[2,0,129,12,7]],\"ended\":[],\
-        \"records\":[[1,0,1,64,14,0,0,16,7],[2,0,2,128,14,1,0,64,7]],\"version\":1}\n\
+        \"records\":[[1,0,1,64,14,0,0,16,7],[2,0,2,128,14,1,0,64,7]],\"version\":2}\n\
         same 0 1\n",
         "records 1.0\n\
         records 2.0\n\
@@ -75,7 +108,7 @@ fn flush_one_page_of_four(rt: HostRuntime) -> Result<(), Fail> {
         rights none\n\
         rights 00012:rwx\n\
         snapshot {\"cuts\":[[1,0,65,12,7],[2,0,129,12,7]],\"ended\":[],\
-        \"records\":[[1,0,1,64,14,0,0,16,7],[2,0,2,128,14,1,0,64,7]],\"version\":1}\n\
+        \"records\":[[1,0,1,64,14,0,0,16,7],[2,0,2,128,14,1,0,64,7]],\"version\":2}\n\
         taken 4\n\
         same yes\n",
     )
@@ -152,8 +185,14 @@ fn root_flushes_itself(rt: HostRuntime) -> Result<(), Fail> {
         "revocations 1\n\
         rights none\n\
         records none\n\
-        snapshot {\"cuts\":[[0,0,16,12,7]],\"ended\":[],\"records\":[],\"version\":1}\n",
+        snapshot {\"cuts\":[[0,0,16,12,7]],\"ended\":[],\"records\":[],\"version\":2}\n",
     )
+}
+
+#[test]
+fn texts_of_both_versions(rt: HostRuntime) -> Result<(), Fail> {
+    let (script, output) = BOTH_VERSIONS;
+    gives(&rt, rt.alloc(), script, output)
 }
 
 #[test]

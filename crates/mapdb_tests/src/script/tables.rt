@@ -18,7 +18,7 @@ fn table_of_one_page_of_four(rt: HostRuntime) -> Result<(), Fail> {
         "records 1.0\n\
         records 2.0\n\
         revocations 2\n\
-        table 5\nrow 0 00000 1048576 00000:rwx\nrow 1 00040 1 00010:rwx\nrow 1 00042 2 00012:rwx\nrow 2 00080 1 00010:rwx\nrow 2 00082 2 00012:rwx\n",
+        table 5\nrow 0 00000 68719476736 00000:rwx\nrow 1 00040 1 00010:rwx\nrow 1 00042 2 00012:rwx\nrow 2 00080 1 00010:rwx\nrow 2 00082 2 00012:rwx\n",
     )
 }
 
@@ -28,7 +28,7 @@ fn table_of_another_processor(rt: HostRuntime) -> Result<(), Fail> {
         &rt,
         rt.alloc(),
         "processors 2\nmap 0 0 10000/12:rw- 0 1 40000/12\ntable 1\ntable 2\n",
-        "records 1.0\ntable 1\nrow 0 00000 1048576 00000:rwx\nrefused no-processor\n",
+        "records 1.0\ntable 1\nrow 0 00000 68719476736 00000:rwx\nrefused no-processor\n",
     )
 }
 

@@ -35,16 +35,16 @@ fn writes_refused(
 fn tree_lines(rt: HostRuntime) {
     let last = Space { number: 65535 };
     assert_eq!(rt;
-        parse_line(b" tree  65535 fffff000 \r"),
-        Ok(Some(Line::Tree(last, 0xffff_f000)))
+        parse_line(b" tree  65535 fffffffff000 \r"),
+        Ok(Some(Line::Tree(last, 0xffff_ffff_f000)))
     );
     for (line, fault) in [
         (b"trees 0 0".as_slice(), LineFault::Unknown),
         (b"tree 0 0 0", LineFault::Words),
         (b"tree x", LineFault::Words),
         (b"tree 65536 x", LineFault::Number),
-        (b"tree 0 100000000", LineFault::Number),
-        (b"tree 0 000000000", LineFault::Number),
+        (b"tree 0 1000000000000", LineFault::Number),
+        (b"tree 0 00000000000000000", LineFault::Number),
     ] {
         assert_eq!(rt; parse_line(line), Err(fault), "{line:?}");
     }

@@ -104,10 +104,46 @@ fn complete_by_its_order(rt: HostRuntime) -> Result<(), Fail> {
         rt.alloc(),
         3,
         "processors 1\n\
-        words 0 0 00008008 00000207 1 00000010\n\
-        rights 0 1 fffff000\n",
+        words 0 0 0000000000008008 0000000000000307 1 0000000000000010\n\
+        rights 0 1 fffffffff000\n",
         "records 1.0\n\
-        rights fffff:rwx\n",
+        rights fffffffff:rwx\n",
+    )
+}
+
+#[test]
+fn places_beyond_words_of_32_bits(rt: HostRuntime) -> Result<(), Fail> {
+    writes(
+        &rt,
+        rt.alloc(),
+        14,
+        "processors 1\n\
+        words 0 0 0000000000008008 0000000000000207 1 0000000000000010\n\
+        rights 0 1 fffff000\n\
+        rights 0 1 100000000\n\
+        words 0 0 0000000000008008 0000000000000214 2 0000000000000010\n\
+        rights 0 2 1fffff000\n\
+        rights 0 2 200000000\n\
+        words 0 0 0000000000008008 0000fffffffff0c1 3 0000000000000010\n\
+        rights 0 3 8000\n\
+        words 0 0 fedcba9876540008 00000000000100e7 4 0000000000000010\n\
+        rights 0 4 ba9876543000\n\
+        words 0 0 fedcba9876543c08 00000000000100e7 5 0000000000000010\n\
+        rights 0 5 ba9876540000\n\
+        rights 0 5 ba9876544000\n",
+        "records 1.0\n\
+        rights fffff:rwx\n\
+        rights none\n\
+        records 2.0\n\
+        rights 1fffff:r--\n\
+        rights none\n\
+        records 3.0\n\
+        rights fffffffff:--x\n\
+        records 4.0\n\
+        rights 00013:rwx\n\
+        records 5.0\n\
+        rights 00010:rwx\n\
+        rights none\n",
     )
 }
 
@@ -127,7 +163,16 @@ fn faulty_items(rt: HostRuntime) -> Result<(), Fail> {
         ("00008008 00000400", LineFault::TooSmall, "too-small"),
         ("00008008 000000b4", LineFault::TooSmall, "too-small"),
         ("00008008 00001014", LineFault::TooSmall, "too-small"),
-        ("00008008 00000214", LineFault::TooLarge, "too-large"),
+        (
+            "00008008 0000000000000314",
+            LineFault::TooLarge,
+            "too-large",
+        ),
+        (
+            "00008008 00010000000000c4",
+            LineFault::OutOfSpace,
+            "out-of-space",
+        ),
         ("00008008 000004c4", LineFault::Unaligned, "unaligned"),
         ("00008008 000010d4", LineFault::Unaligned, "unaligned"),
     ] {

@@ -6,7 +6,7 @@ use mapdb_tree::{Node, Page, Tree};
 use std::alloc::{AllocError, Global};
 
 /// The pages of the first space that the plain tree has.
-const MEMORY: [u32; 8] = [0x10, 0x11, 0x12, 0x13, 0x14, 0x15, 0x16, 0x17];
+const MEMORY: [u64; 8] = [0x10, 0x11, 0x12, 0x13, 0x14, 0x15, 0x16, 0x17];
 
 /// A page and what it has.
 #[derive(Clone, Copy, Debug, PartialEq, Eq)]
@@ -150,9 +150,9 @@ impl PlainTree {
     }
 
     /// Whether a tree has the same frame and rights at these pages of the space.
-    pub fn agrees(&self, tree: &Tree, space: Space, first: u32) -> bool {
+    pub fn agrees(&self, tree: &Tree, space: Space, first: u64) -> bool {
         for offset in 0..8u8 {
-            let number = first.saturating_add(offset as u32);
+            let number = first.saturating_add(offset as u64);
             let here = self.node(Page { space, number });
             let pair = here.map(|node| (node.frame, node.rights));
             if tree.rights(space, number) != pair {

@@ -7,7 +7,7 @@ use mapdb_replica::{IssueFault, Replica};
 use std::process::Abort;
 
 /// What a page of space 1 is served from, with rights as bits.
-fn served_here(copy: &Replica, page: u32) -> Option<(u32, u8)> {
+fn served_here(copy: &Replica, page: u64) -> Option<(u64, u8)> {
     let (frame, rights) = copy.served(space(1), page)?;
     Some((frame, rights.bits()))
 }
