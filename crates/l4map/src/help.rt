@@ -54,10 +54,11 @@ Lines of a script:
                              as map, by the two words of a map item and the word of a window
   unmap P S SEND MODE        at processor P, space S takes SEND's rights from all that received its pages;
                              MODE is keep, or flush for space S too
-  end P S                    at processor P, space S ends, for good
+  end P S                    at processor P, space S ends, for good; its number is used again under another version
   rights P S ADDR            asks for the frames and the rights of space S at address ADDR
   served P S ADDR            asks for the frame that the page at ADDR of space S is served from
   tree S ADDR                asks what the sequential tree of processor 0's accepted commands has there
+  version P NUMBER           asks for the least version of the space's number that has not ended in P's copy
   send P I J                 makes a message of the operations of P's copy, in order of arrival,
                              from the mark I on and up to before the mark J
   deliver M P                brings message M to processor P, whose copy takes its operations
@@ -71,7 +72,8 @@ Lines of a script:
 
 Words of a line:
   N, P, Q     decimal; processors count from 0
-  S, R        decimal; space 0 stands for physical memory
+  S, R        a space: its number, decimal, or NUMBER.VERSION where the version is not 0; space 0 stands for
+              physical memory
   I, J, M     decimal; marks and messages count from 0
   BASE, ADDR  an address, in hexadecimal without a prefix
   FPAGE       ADDR/ORDER, the 2^ORDER bytes from ADDR on, with ORDER decimal; or `all`, or `nil`

@@ -1,13 +1,15 @@
 -- An Unmap of the tree shows an Unmap of the state.
-use Rattle.std.proofs.Common.{◌≡◌, ℕ, Bool, true, false, Some, refl, sym, ap, ◌∙◌, inl, inr, List, [], ◌∷◌}
-use Rattle.std.specs.Prelude.{◌&&◌, ◌||◌, ◌==◌, not, Option, None}
-use Rattle.std.proofs.lemmas.Bool.{cond-true, cond-false, cases_Bool, false≢true, eqb-true, eq-eqb}
+use Rattle.std.proofs.Common.{◌≡◌, subst, ℕ, Bool, true, false, Some, refl, sym, ap, ◌∙◌, inl, inr, List, [], ◌∷◌}
+use Rattle.std.specs.Prelude.{◌&&◌, ◌||◌, not, Option, None}
+use Rattle.std.proofs.lemmas.Bool.{cond-true, cond-false, cases_Bool, false≢true}
 use Rattle.mapdb_fpage.proofs.Booleans.{same_test}
 use Rattle.mapdb_fpage.specs.Place.{Place, holds, is_page}
 use Rattle.mapdb_fpage.specs.RightSets.{includes}
 use Rattle.mapdb_fpage.specs.declared.right_sets.Right.{Right}
 use Rattle.mapdb_fpage.specs.declared.right_sets.Rights.{Rights}
-use Rattle.mapdb_facts.specs.Names.{is_first_space, is_root, same_space}
+use Rattle.mapdb_facts.specs.Exact.{exact_space}
+use Rattle.mapdb_facts.specs.Names.{first_space, is_first_space, is_root, same_space}
+use Rattle.mapdb_facts.proofs.SameNames.{same_space_itself}
 use Rattle.mapdb_facts.specs.State.{State}
 use Rattle.mapdb_facts.specs.declared.names.RecordId.{RecordId}
 use Rattle.mapdb_facts.specs.declared.names.Space.{Space}
@@ -63,19 +65,22 @@ same_into S space other id into = elim (cases_Bool (is_root id)) [
       let first : is_first_space other ≡ true = sym (cond-true (is_root id) (is_first_space other) (is_record_into (S.record_at id) other) top)
       ∙ into in
       cond-true (is_root id) (is_first_space space) (is_record_into (S.record_at id) space) top
-      ∙ ap (λ (n : ℕ). space.number == n) (sym (eqb-true other.number 0 first))
+      ∙ ap (λ (o : Space). same_space space o) (sym (exact_space other first_space first))
   | inr below ↦
       let here : is_record_into (S.record_at id) other ≡ true =
       sym (cond-false (is_root id) (is_first_space other) (is_record_into (S.record_at id) other) below) ∙ into in
       cond-false (is_root id) (is_first_space space) (is_record_into (S.record_at id) space) below ∙ of_record (S.record_at id) here
 ]
   where
-    turned : (a b c : ℕ) → a ≡ b → (a == c) ≡ (c == b)
-    turned a b c e = same_test (a == c) (c == b) (λ h. eq-eqb c b (sym (eqb-true a c h) ∙ e)) (λ h. eq-eqb a c (e ∙ sym (eqb-true c b h)))
+    same_at : (a b : Space) → a ≡ b → same_space a b ≡ true
+    same_at a b e = subst (λ (x : Space). same_space a x ≡ true) e (same_space_itself a)
+
+    turned : (a b c : Space) → a ≡ b → same_space a c ≡ same_space c b
+    turned a b c e = same_test (same_space a c) (same_space c b) (λ h. same_at c b (sym (exact_space a c h) ∙ e)) (λ h. same_at a c (e ∙ sym (exact_space c b h)))
 
     of_record : (o : Option Record) → is_record_into o other ≡ true → is_record_into o space ≡ same_space space other
     of_record None h = absurd (false≢true h)
-    of_record (Some r) h = turned r.space.number other.number space.number (eqb-true r.space.number other.number h)
+    of_record (Some r) h = turned r.space other space (exact_space r.space other h)
 
 pub is_among_into : (S : State) (space : Space) (part : Place) (spot : Page) (id : RecordId) (page : ℕ) → is_into S spot.space id ≡ true
     → spot.number ≡ page → (is_into S space id && holds part page) ≡ is_among space part spot

@@ -152,7 +152,7 @@ abbrev place_step : RecordId → Space → Items → Result (Somewhere Op) Snaps
 place_step id space row = unplaced_at narrow 3 row >>= (λ place. parent_step id space place row)
 
 abbrev space_step : RecordId → Items → Result (Somewhere Op) SnapshotFault
-space_step id row = space_at 2 row >>= (λ space. place_step id space row)
+space_step id row = space_at narrow 2 row >>= (λ space. place_step id space row)
 
 abbrev id_step : Items → Result (Somewhere Op) SnapshotFault
 id_step row = name_at 0 row >>= (λ id. space_step id row)
@@ -161,7 +161,7 @@ record_near : (d : Data) (one : Somewhere Op) → record_of narrow d ≡ Ok one 
 record_near d one e =
     let row = bind_ok (row_of 9 d) id_step one e in
     let id = bind_ok (name_at 0 row.0) (λ id. space_step id row.0) one row.2 in
-    let space = bind_ok (space_at 2 row.0) (λ space. place_step id.0 space row.0) one id.2 in
+    let space = bind_ok (space_at narrow 2 row.0) (λ space. place_step id.0 space row.0) one id.2 in
     let place = bind_ok (unplaced_at narrow 3 row.0) (λ place. parent_step id.0 space.0 place row.0) one space.2 in
     let parent = bind_ok (name_at 5 row.0) (λ parent. source_step id.0 space.0 place.0 parent row.0) one place.2 in
     let source = bind_ok (number_at 7 (2 ^ 20 - 1 + 1) row.0) (λ source. rights_step id.0 space.0 place.0 parent.0 source row.0) one parent.2 in
@@ -185,9 +185,9 @@ cut_near d one e =
     let near : StaysNear (cut_as target.0 place.0 rights.0) = λ at order. tt in
     subst StaysNear (ok_same (cut_as target.0 place.0 rights.0) one rights.2) near
 
-end_near : (d : Data) (op : Op) → end_of d ≡ Ok op → IsNear op
+end_near : (d : Data) (op : Op) → end_of narrow d ≡ Ok op → IsNear op
 end_near d op e =
-    let space = bind_ok (space_of d) (λ space. Ok (Closed space)) op e in
+    let space = bind_ok (space_of narrow d) (λ space. Ok (Closed space)) op e in
     let near : IsNear (Closed space.0) = tt in
     subst IsNear (ok_same (Closed space.0) op space.2) near
 
@@ -207,12 +207,12 @@ abbrev records_step : Members → List (Somewhere Op) → List Op → Result (Li
 records_step members cuts ends = list_under (codes "records") (record_of narrow) members >>= (λ records. born_step cuts ends records)
 
 abbrev ends_step : Members → List (Somewhere Op) → Result (List Op) SnapshotFault
-ends_step members cuts = list_under (codes "ended") end_of members >>= (λ ends. records_step members cuts ends)
+ends_step members cuts = list_under (codes "ended") (end_of narrow) members >>= (λ ends. records_step members cuts ends)
 
 lists_near : (members : Members) (ops : List Op) → lists_of narrow members ≡ Ok ops → (op : Op) → IsAmong op ops → IsNear op
 lists_near members ops e op among =
     let cuts = bind_ok (list_under (codes "cuts") (cut_of narrow) members) (λ cuts. ends_step members cuts) ops e in
-    let ends = bind_ok (list_under (codes "ended") end_of members) (λ ends. records_step members cuts.0 ends) ops cuts.2 in
+    let ends = bind_ok (list_under (codes "ended") (end_of narrow) members) (λ ends. records_step members cuts.0 ends) ops cuts.2 in
     let records = bind_ok (list_under (codes "records") (record_of narrow) members) (λ records. born_step cuts.0 ends.0 records) ops ends.2 in
     let born = bind_ok (placed_all narrow records.0) (λ born. cut_step cuts.0 ends.0 born) ops records.2 in
     let cut = bind_ok (placed_all narrow cuts.0) (λ cut. Ok (born.0 ++ cut ++ ends.0)) ops born.2 in
@@ -221,7 +221,7 @@ lists_near members ops e op among =
         | inl here ↦ placed_near records.0 born.0 born.1 (list_kept StaysNear (codes "records") (record_of narrow) record_near members records.0 records.1) op here
         | inr here ↦ placed_near cuts.0 cut.0 cut.1 (list_kept StaysNear (codes "cuts") (cut_of narrow) cut_near members cuts.0 cuts.1) op here
       ]
-      | inr here ↦ list_kept IsNear (codes "ended") end_of end_near members ends.0 ends.1 op here
+      | inr here ↦ list_kept IsNear (codes "ended") (end_of narrow) end_near members ends.0 ends.1 op here
     ]
 
 counted : (t : Bool) (members : Members) (ops : List Op) → (if t then lists_of narrow members else Err fault.Shape) ≡ Ok ops → lists_of narrow members ≡ Ok ops

@@ -16,7 +16,7 @@ use Rattle.mapdb_facts.specs.declared.operations.Op.TheVariants.{Born, Closed, C
 use Rattle.mapdb_snapshot.specs.declared.faults.SnapshotFault.{SnapshotFault}
 use Rattle.mapdb_snapshot.specs.declared.faults.SnapshotFault.TheVariants as fault
 use Rattle.mapdb_snapshot.specs.declared.forms.Form.{Form}
-use Rattle.mapdb_snapshot.specs.Forms.{form_of, place_within}
+use Rattle.mapdb_snapshot.specs.Forms.{form_of, place_within, space_places}
 
 infixl 10 ◌>>=◌
 -- one step after the other, up to the first fault
@@ -64,13 +64,26 @@ name_at place row = do
   processor ← number_at (place + 1) 256 row
   Ok (record { number = number; processor = processor })
 
-abbrev pub space_of : Data → Result Space SnapshotFault
-space_of d = do
-  number ← whole_below 65536 d
-  Ok (record { number = number })
+-- the version of a space at a place of a row; the first where rows have none
+abbrev pub version_at : Form → ℕ → Items → Result ℕ SnapshotFault
+version_at form place row = if form.has_versions then number_at place (2 ^ 32) row else Ok 0
 
-abbrev pub space_at : ℕ → Items → Result Space SnapshotFault
-space_at place row = or_shape (get_item place row) >>= space_of
+-- the space whose number, and version where it has one, stand from this place on
+abbrev pub space_at : Form → ℕ → Items → Result Space SnapshotFault
+space_at form place row = do
+  number ← number_at place 65536 row
+  version ← version_at form (place + 1) row
+  Ok (record { number = number; version = version })
+
+-- the space that a number alone names
+abbrev pub first_of_number : Data → Result Space SnapshotFault
+first_of_number d = do
+  number ← whole_below 65536 d
+  Ok (record { number = number; version = 0 })
+
+-- a space by itself: [number, version], or its number where rows have no version
+abbrev pub space_of : Form → Data → Result Space SnapshotFault
+space_of form d = if form.has_versions then row_of 2 d >>= space_at form 0 else first_of_number d
 
 -- a place by its first page and its order, before it is looked at
 pub record Unplaced : Type 0 where
@@ -88,16 +101,17 @@ pub record Somewhere (A : Type 0) : Type 0 where
   pub place : Unplaced
   pub value : Place → A
 
--- [number, processor, space, page, s, parent number, parent processor, source page, rights]
+-- [number, processor, space, space version, page, s, parent number, parent processor, source page, rights], the space version
+-- where rows have one
 abbrev pub record_of : Form → Data → Result (Somewhere Op) SnapshotFault
 record_of form d = do
-  row ← row_of 9 d
+  row ← row_of (8 + space_places form) d
   id ← name_at 0 row
-  space ← space_at 2 row
-  place ← unplaced_at form 3 row
-  parent ← name_at 5 row
-  source ← number_at 7 (form.most_source + 1) row
-  rights ← rights_at 8 row
+  space ← space_at form 2 row
+  place ← unplaced_at form (2 + space_places form) row
+  parent ← name_at (4 + space_places form) row
+  source ← number_at (6 + space_places form) (form.most_source + 1) row
+  rights ← rights_at (7 + space_places form) row
   Ok (record {
     place = place;
     value = λ at. Born (record { id = id; space = space; place = at; parent = parent; source = source; rights = rights });
@@ -112,9 +126,9 @@ cut_of form d = do
   rights ← rights_at 4 row
   Ok (record { place = place; value = λ at. Cut (record { target = target; part = at; rights = rights }) })
 
-abbrev pub end_of : Data → Result Op SnapshotFault
-end_of d = do
-  space ← space_of d
+abbrev pub end_of : Form → Data → Result Op SnapshotFault
+end_of form d = do
+  space ← space_of form d
   Ok (Closed space)
 
 -- each value of a list, up to the first fault
@@ -148,7 +162,7 @@ version_of members = or_shape (get_member (codes "version") members) >>= whole_b
 abbrev pub lists_of : Form → Members → Result (List Op) SnapshotFault
 lists_of form members = do
   cuts ← list_under (codes "cuts") (cut_of form) members
-  ends ← list_under (codes "ended") end_of members
+  ends ← list_under (codes "ended") (end_of form) members
   records ← list_under (codes "records") (record_of form) members
   born ← placed_all form records
   cut ← placed_all form cuts

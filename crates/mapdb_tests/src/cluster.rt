@@ -14,7 +14,7 @@ mod sizes;
 
 /// The space of this number.
 fn space(number: u16) -> Space {
-    Space { number }
+    Space::first(number)
 }
 
 /// The rights of these bits.

@@ -31,7 +31,7 @@ fn map(from: u64, rights: Rights, to: u16) -> Command {
             page: Fpage::new(from, 12).ok(),
             rights,
         },
-        receiver: Space { number: to },
+        receiver: Space::first(to),
         window: Fpage::new(0x2_0000, 12).ok(),
     }
 }
@@ -39,7 +39,7 @@ fn map(from: u64, rights: Rights, to: u16) -> Command {
 /// Ends a space.
 fn end(number: u16) -> Command {
     Command::End {
-        space: Space { number },
+        space: Space::first(number),
     }
 }
 

@@ -20,7 +20,7 @@ fn id(number: u32, processor: u8) -> RecordId {
 fn record(number: u32, processor: u8) -> Op {
     Op::Born(Record {
         id: id(number, processor),
-        space: Space { number: 1 },
+        space: Space::first(1),
         place: Fpage::complete(),
         parent: RecordId::ROOT,
         source: 0,
@@ -43,9 +43,7 @@ fn add_all(facts: &mut Facts, processor: u8) -> bool {
     for number in 1..=NAMES {
         all_new &= facts.add(record(number, processor)) == Ok(true);
         all_new &= facts.add(cut(number, processor)) == Ok(true);
-        let space = Space {
-            number: number as u16,
-        };
+        let space = Space::first(number as u16);
         all_new &= facts.add(Op::Closed(space)) == Ok(true);
     }
     all_new

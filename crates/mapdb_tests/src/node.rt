@@ -37,7 +37,7 @@ fn map(page: u64, to: u16) -> NodeEvent {
             page: place(page),
             rights: Rights::ALL,
         },
-        receiver: Space { number: to },
+        receiver: Space::first(to),
         window: place(page),
     })
 }
@@ -45,7 +45,7 @@ fn map(page: u64, to: u16) -> NodeEvent {
 /// What a page of a space is served from.
 fn served(page: u64, number: u16) -> NodeEvent {
     NodeEvent::Served {
-        space: Space { number },
+        space: Space::first(number),
         page,
     }
 }

@@ -10,4 +10,5 @@ mod tables;
 mod threads;
 mod tree;
 mod unmapping;
+mod versions;
 mod words;

@@ -27,7 +27,7 @@ fn place(addr: u64, s: u8) -> Fpage {
 fn born(number: u16, addr: u64, s: u8, parent: RecordId, source: u64) -> Op {
     Op::Born(Record {
         id: id(number as u64),
-        space: Space { number },
+        space: Space::first(number),
         place: place(addr, s),
         parent,
         source,
@@ -56,7 +56,7 @@ fn expect_text(rt: &impl Abort, alloc: Global, ops: &[Op], wanted: &str) -> Resu
 
 #[test]
 fn empty_copy(rt: HostRuntime) -> Result<(), Fail> {
-    let wanted = r#"{"cuts":[],"ended":[],"records":[],"version":2}"#;
+    let wanted = r#"{"cuts":[],"ended":[],"records":[],"version":3}"#;
     expect_text(&rt, rt.alloc(), &[], wanted)
 }
 
@@ -72,7 +72,7 @@ fn runs_are_cut_into_the_largest_places(rt: HostRuntime) -> Result<(), Fail> {
     ];
     let wanted = concat!(
         r#"{"cuts":[[1,0,3,12,2],[1,0,4,14,2],[1,0,8,12,2]],"ended":[],"#,
-        r#""records":[[1,0,1,0,16,0,0,0,7]],"version":2}"#
+        r#""records":[[1,0,1,0,0,16,0,0,0,7]],"version":3}"#
     );
     expect_text(&rt, rt.alloc(), &ops, wanted)
 }
@@ -84,12 +84,16 @@ fn one_page_of_four_flushed(rt: HostRuntime) -> Result<(), Fail> {
         born(2, 0x80000, 14, id(1), 64),
         cut(2, 0x81000, 12, 7),
         cut(1, 0x41000, 12, 7),
-        Op::Closed(Space { number: 9 }),
-        Op::Closed(Space { number: 3 }),
+        Op::Closed(Space::first(9)),
+        Op::Closed(Space {
+            number: 3,
+            version: u32::MAX,
+        }),
+        Op::Closed(Space::first(3)),
     ];
     let wanted = concat!(
-        r#"{"cuts":[[1,0,65,12,7],[2,0,129,12,7]],"ended":[3,9],"#,
-        r#""records":[[1,0,1,64,14,0,0,16,7],[2,0,2,128,14,1,0,64,7]],"version":2}"#
+        r#"{"cuts":[[1,0,65,12,7],[2,0,129,12,7]],"ended":[[3,0],[3,4294967295],[9,0]],"#,
+        r#""records":[[1,0,1,0,64,14,0,0,16,7],[2,0,2,0,128,14,1,0,64,7]],"version":3}"#
     );
     expect_text(&rt, rt.alloc(), &ops, wanted)
 }

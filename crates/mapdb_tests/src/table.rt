@@ -12,7 +12,7 @@ use std::thread::Threads;
 
 /// The space of a number.
 fn space(number: u16) -> Space {
-    Space { number }
+    Space::first(number)
 }
 
 /// The place of `2^order` bytes at a byte address.

@@ -29,7 +29,7 @@ const WRITE: Rights = Rights {
 
 /// The space of this number.
 fn space(number: u16) -> Space {
-    Space { number }
+    Space::first(number)
 }
 
 /// The place of one page.
@@ -177,5 +177,37 @@ fn the_first_space_flushes_one_page(rt: HostRuntime) -> Result<(), Fail> {
         Ok(())
     );
     assert_eq!(rt; tree.rights(space(3), 0x40), None);
+    Ok(())
+}
+
+#[test]
+fn a_number_is_used_again(rt: HostRuntime) -> Result<(), Fail> {
+    let next = Space {
+        number: 1,
+        version: 1,
+    };
+    let mut tree = two_steps(rt.alloc())?;
+    tree.end(space(1))?;
+    tree.map(space(0), &item(0x11, READ), next, page(0x20))?;
+    assert_eq!(rt; tree.rights(space(1), 0x20), None);
+    assert_eq!(rt; tree.rights(space(2), 0x30), None);
+    assert_eq!(rt; tree.rights(next, 0x20), Some((0x11, READ)));
+    let again = tree.end(space(1));
+    assert_eq!(rt; again, Err(TreeFault::SpaceEnded(space(1))));
+    Ok(())
+}
+
+#[test]
+fn the_first_number_under_another_version(rt: HostRuntime) -> Result<(), Fail> {
+    let other = Space {
+        number: 0,
+        version: 1,
+    };
+    let mut tree = two_steps(rt.alloc())?;
+    let mapped = tree.map(space(0), &item(0x11, READ), other, page(0x20));
+    assert_eq!(rt; mapped, Err(TreeFault::RootSpace));
+    let ended = tree.end(other);
+    assert_eq!(rt; ended, Err(TreeFault::RootSpace));
+    assert_eq!(rt; tree.rights(other, 0x20), None);
     Ok(())
 }

@@ -14,6 +14,7 @@ mod mapping;
 mod rows;
 mod taking;
 mod unmapping;
+mod versions;
 
 /// Asserts that what was found is what is wanted.
 fn expect<T: Copy + Debug + PartialEq>(rt: &impl Abort, found: T, wanted: T) {
@@ -22,7 +23,7 @@ fn expect<T: Copy + Debug + PartialEq>(rt: &impl Abort, found: T, wanted: T) {
 
 /// The space of this number.
 fn space(number: u16) -> Space {
-    Space { number }
+    Space::first(number)
 }
 
 /// The name of a record of processor 0.

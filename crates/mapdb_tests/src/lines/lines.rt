@@ -7,8 +7,8 @@ use std::test::Fail;
 
 #[test]
 fn lines_say_commands(rt: HostRuntime) -> Result<(), Fail> {
-    let first = Space { number: 0 };
-    let second = Space { number: 65535 };
+    let first = Space::first(0);
+    let second = Space::first(65535);
     let item = MapItem {
         send_base: u64::MAX,
         page: Some(Fpage::new(0x10000, 14)?),
@@ -34,7 +34,7 @@ fn lines_say_commands(rt: HostRuntime) -> Result<(), Fail> {
 
 #[test]
 fn lines_say_queries(rt: HostRuntime) {
-    let second = Space { number: 65535 };
+    let second = Space::first(65535);
     assert_eq!(rt;
         parse_line(b"processors 007"),
         Ok(Some(Line::Processors(7)))
@@ -72,7 +72,7 @@ fn lines_say_nothing(rt: HostRuntime) {
 }
 
 /// Faulty lines, each with its fault.
-const FAULTY: [(&[u8], LineFault); 44] = [
+const FAULTY: [(&[u8], LineFault); 54] = [
     (b"\t#", LineFault::Unknown),
     (b"Rights 0 0 0", LineFault::Unknown),
     (b"serve 0 0 0", LineFault::Unknown),
@@ -120,7 +120,37 @@ const FAULTY: [(&[u8], LineFault); 44] = [
     (b"map 0 0 nil:wr- x 1 all", LineFault::Rights),
     (b"map 0 0 nil:rwx x 1 all", LineFault::Number),
     (b"map 0 0 nil:rwx 0 1 nil:", LineFault::PageSyntax),
+    (b"version 0", LineFault::Words),
+    (b"version 0 5 0", LineFault::Words),
+    (b"version 256 5", LineFault::Number),
+    (b"version 0 65536", LineFault::Number),
+    (b"version 0 5.0", LineFault::Number),
+    (b"end 0 5.", LineFault::Number),
+    (b"end 0 .5", LineFault::Number),
+    (b"end 0 5.4294967296", LineFault::Number),
+    (b"end 0 5.0.0", LineFault::Number),
+    (b"end 0 65536.0", LineFault::Number),
 ];
+
+#[test]
+fn spaces_have_versions(rt: HostRuntime) {
+    let last = Space {
+        number: 65535,
+        version: u32::MAX,
+    };
+    assert_eq!(rt;
+        parse_line(b"version 255 65535"),
+        Ok(Some(Line::Version(255, 65535)))
+    );
+    for (line, space) in [
+        (b"end 0 5".as_slice(), Space::first(5)),
+        (b"end 0 5.0", Space::first(5)),
+        (b"end 0 005.00", Space::first(5)),
+        (b"end 0 65535.4294967295", last),
+    ] {
+        assert_eq!(rt; parse_line(line), Ok(Some(Line::End(0, space))), "{line:?}");
+    }
+}
 
 #[test]
 fn words_are_looked_at_in_order(rt: HostRuntime) {

@@ -7,8 +7,8 @@ use std::test::Fail;
 
 #[test]
 fn words_say_a_map(rt: HostRuntime) -> Result<(), Fail> {
-    let first = Space { number: 0 };
-    let second = Space { number: 65535 };
+    let first = Space::first(0);
+    let second = Space::first(65535);
     let item = MapItem {
         send_base: 0xffff_ffff_ffff_fc00,
         page: Some(Fpage::new(0x10000, 14)?),

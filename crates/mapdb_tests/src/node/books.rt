@@ -25,7 +25,7 @@ fn expect_reply(
 
 /// Another copy has ended a space.
 fn take_end() -> NodeEvent {
-    NodeEvent::Take(Op::Closed(Space { number: 5 }))
+    NodeEvent::Take(Op::Closed(Space::first(5)))
 }
 
 #[test]

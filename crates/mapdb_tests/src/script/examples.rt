@@ -173,29 +173,29 @@ const SAVE_AND_LOAD: (&str, &str) = (
     end 0 2\n\
     save 0\n\n\
     # The same as JSON with other spaces, and keys and lists in another order, is the same copy.\n\
-    load 1 {\"version\": 2, \"records\": [[1, 0, 1, 64, 14, 0, 0, 16, 6]], \"ended\": [2], \"cuts\": [[1, 0, 65, 12, 2]]}\n\
+    load 1 {\"version\": 3, \"records\": [[1, 0, 1, 0, 64, 14, 0, 0, 16, 6]], \"ended\": [[2, 0]], \"cuts\": [[1, 0, 65, 12, 2]]}\n\
     same 0 1\n\
     save 1\n\n\
     # What a text says is looked at before any of it is taken.\n\
     load 2 {\"cuts\":[],\"ended\":[],\"records\":[]\n\
     load 2 {\"cuts\":[],\"ended\":[],\"records\":[],\"version\":9}\n\
-    load 2 {\"cuts\":[[1,0,65,13,2]],\"ended\":[],\"records\":[],\"version\":2}\n\
+    load 2 {\"cuts\":[[1,0,65,13,2]],\"ended\":[],\"records\":[],\"version\":3}\n\
     load 2 {\"cuts\":[],\"ended\":[0],\"records\":[],\"version\":2}\n\
-    load 1 {\"cuts\":[],\"ended\":[],\"records\":[[1,0,1,64,12,0,0,16,7]],\"version\":2}\n\
+    load 1 {\"cuts\":[],\"ended\":[],\"records\":[[1,0,1,0,64,12,0,0,16,7]],\"version\":3}\n\
     save 2\n",
     "records 1.0\n\
     revocations 1\n\
     ended 2\n\
-    snapshot {\"cuts\":[[1,0,65,12,2]],\"ended\":[2],\"records\":[[1,0,1,64,14,0,0,16,6]],\"version\":2}\n\
+    snapshot {\"cuts\":[[1,0,65,12,2]],\"ended\":[[2,0]],\"records\":[[1,0,1,0,64,14,0,0,16,6]],\"version\":3}\n\
     taken 3\n\
     same yes\n\
-    snapshot {\"cuts\":[[1,0,65,12,2]],\"ended\":[2],\"records\":[[1,0,1,64,14,0,0,16,6]],\"version\":2}\n\
+    snapshot {\"cuts\":[[1,0,65,12,2]],\"ended\":[[2,0]],\"records\":[[1,0,1,0,64,14,0,0,16,6]],\"version\":3}\n\
     refused snapshot not-json\n\
     refused snapshot version\n\
     refused snapshot unaligned\n\
     refused bad 0 root-space\n\
     refused clash 1.0\n\
-    snapshot {\"cuts\":[],\"ended\":[],\"records\":[],\"version\":2}\n",
+    snapshot {\"cuts\":[],\"ended\":[],\"records\":[],\"version\":3}\n",
 );
 
 #[test]

@@ -58,13 +58,13 @@ fn snapshot(alloc: Global, records: u32, cuts: u32, ends: u32) -> Result<String,
     let mut text = closed(text, "],\"ended\":[")?;
     for step in 1..=ends {
         let space = u64::from(step) + 1;
-        text.push_str(format!(in alloc; "{space},")?.as_str())?;
+        text.push_str(format!(in alloc; "[{space},0],")?.as_str())?;
     }
     let mut text = closed(text, "],\"records\":[")?;
     for page in 1..=records {
-        text.push_str(format!(in alloc; "[{page},0,1,{page},12,0,0,{page},7],")?.as_str())?;
+        text.push_str(format!(in alloc; "[{page},0,1,0,{page},12,0,0,{page},7],")?.as_str())?;
     }
-    closed(text, "],\"version\":2}")
+    closed(text, "],\"version\":3}")
 }
 
 #[test]
@@ -102,11 +102,11 @@ fn chain(alloc: Global) -> Result<String, AllocError> {
         let parent = number - 1;
         let space = parent % 65_535 + 1;
         let row = format!(in alloc;
-            "[{number},0,{space},68719476735,12,{parent},0,68719476735,7],"
+            "[{number},0,{space},0,68719476735,12,{parent},0,68719476735,7],"
         )?;
         text.push_str(row.as_str())?;
     }
-    closed(text, "],\"version\":2}")
+    closed(text, "],\"version\":3}")
 }
 
 #[test]

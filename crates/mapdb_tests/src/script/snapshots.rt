@@ -6,7 +6,7 @@ use std::test::Fail;
 
 /// The snapshot of a copy in which one page of four was flushed.
 const ONE_OF_FOUR: &str = "{\"cuts\":[[1,0,65,12,7],[2,0,129,12,7]],\"ended\":[],\
-    \"records\":[[1,0,1,64,14,0,0,16,7],[2,0,2,128,14,1,0,64,7]],\"version\":2}";
+    \"records\":[[1,0,1,0,64,14,0,0,16,7],[2,0,2,0,128,14,1,0,64,7]],\"version\":3}";
 
 /// A script that loads texts which are no snapshots, and what it writes.
 const NO_SNAPSHOTS: (&str, &str) = (
@@ -54,8 +54,9 @@ const REFUSED_BATCHES: (&str, &str) = (
     refused clash 2.1\n",
 );
 
-/// A script that loads texts of both versions, and what it writes: the first version has its old bounds.
-const BOTH_VERSIONS: (&str, &str) = (
+/// A script that loads texts of each version, and what it writes: the first version has its old bounds, and the first two have no
+/// versions of spaces.
+const EACH_VERSION: (&str, &str) = (
     "processors 1\n\
     load 0 {\"cuts\":[[1,0,1,33,7]],\"ended\":[],\"records\":[],\"version\":1}\n\
     load 0 {\"cuts\":[[1,0,1048576,12,7]],\"ended\":[],\"records\":[],\"version\":1}\n\
@@ -70,7 +71,14 @@ const BOTH_VERSIONS: (&str, &str) = (
     load 0 {\"cuts\":[[1,0,1,33,7]],\"ended\":[],\"records\":[],\"version\":2}\n\
     load 0 {\"cuts\":[],\"ended\":[],\"records\":[[2,0,2,0,48,0,0,0,7]],\"version\":2}\n\
     rights 0 2 fffffffff000\n\
-    load 0 {\"cuts\":[],\"ended\":[],\"records\":[],\"version\":0}\n",
+    load 0 {\"cuts\":[],\"ended\":[],\"records\":[[3,0,2,1,0,48,0,0,0,7]],\"version\":2}\n\
+    load 0 {\"cuts\":[],\"ended\":[[9,0]],\"records\":[],\"version\":2}\n\
+    load 0 {\"cuts\":[],\"ended\":[9],\"records\":[],\"version\":3}\n\
+    load 0 {\"cuts\":[],\"ended\":[[2,0]],\"records\":[[3,0,2,1,0,48,0,0,0,4]],\"version\":3}\n\
+    rights 0 2 fffffffff000\n\
+    rights 0 2.1 fffffffff000\n\
+    load 0 {\"cuts\":[],\"ended\":[],\"records\":[],\"version\":0}\n\
+    load 0 {\"cuts\":[],\"ended\":[],\"records\":[],\"version\":4}\n",
     "refused snapshot too-large\n\
     refused snapshot out-of-space\n\
     refused snapshot shape\n\
@@ -84,6 +92,13 @@ const BOTH_VERSIONS: (&str, &str) = (
     refused snapshot unaligned\n\
     taken 1\n\
     rights fffffffff:rwx\n\
+    refused snapshot shape\n\
+    refused snapshot shape\n\
+    refused snapshot shape\n\
+    taken 2\n\
+    rights none\n\
+    rights fffffffff:r--\n\
+    refused snapshot version\n\
     refused snapshot version\n",
 );
 
@@ -100,7 +115,7 @@ fn flush_one_page_of_four(rt: HostRuntime) -> Result<(), Fail> {
         rights 0 2 82000\n\
         save 0\n\
         load 1  {\"cuts\":[[1,0,65,12,7],[2,0,129,12,7]],\"ended\":[],\
-        \"records\":[[1,0,1,64,14,0,0,16,7],[2,0,2,128,14,1,0,64,7]],\"version\":2}\n\
+        \"records\":[[1,0,1,0,64,14,0,0,16,7],[2,0,2,0,128,14,1,0,64,7]],\"version\":3}\n\
         same 0 1\n",
         "records 1.0\n\
         records 2.0\n\
@@ -108,7 +123,7 @@ fn flush_one_page_of_four(rt: HostRuntime) -> Result<(), Fail> {
         rights none\n\
         rights 00012:rwx\n\
         snapshot {\"cuts\":[[1,0,65,12,7],[2,0,129,12,7]],\"ended\":[],\
-        \"records\":[[1,0,1,64,14,0,0,16,7],[2,0,2,128,14,1,0,64,7]],\"version\":2}\n\
+        \"records\":[[1,0,1,0,64,14,0,0,16,7],[2,0,2,0,128,14,1,0,64,7]],\"version\":3}\n\
         taken 4\n\
         same yes\n",
     )
@@ -185,13 +200,13 @@ fn root_flushes_itself(rt: HostRuntime) -> Result<(), Fail> {
         "revocations 1\n\
         rights none\n\
         records none\n\
-        snapshot {\"cuts\":[[0,0,16,12,7]],\"ended\":[],\"records\":[],\"version\":2}\n",
+        snapshot {\"cuts\":[[0,0,16,12,7]],\"ended\":[],\"records\":[],\"version\":3}\n",
     )
 }
 
 #[test]
-fn texts_of_both_versions(rt: HostRuntime) -> Result<(), Fail> {
-    let (script, output) = BOTH_VERSIONS;
+fn texts_of_each_version(rt: HostRuntime) -> Result<(), Fail> {
+    let (script, output) = EACH_VERSION;
     gives(&rt, rt.alloc(), script, output)
 }
 

@@ -29,7 +29,7 @@ fn map(page: u64, number: u16, window: u64) -> Command {
                 execute: false,
             },
         },
-        receiver: Space { number },
+        receiver: Space::first(number),
         window: Fpage::new(window, 12).ok(),
     }
 }
@@ -40,7 +40,7 @@ fn each_processor_has_its_commands(rt: HostRuntime) -> Result<(), Fail> {
     let first = [
         map(0x10000, 1, 0x20000),
         Command::End {
-            space: Space { number: 9 },
+            space: Space::first(9),
         },
     ];
     let second = [map(0x11000, 2, 0x21000)];

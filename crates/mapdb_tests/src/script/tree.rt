@@ -33,7 +33,7 @@ fn writes_refused(
 
 #[test]
 fn tree_lines(rt: HostRuntime) {
-    let last = Space { number: 65535 };
+    let last = Space::first(65535);
     assert_eq!(rt;
         parse_line(b" tree  65535 fffffffff000 \r"),
         Ok(Some(Line::Tree(last, 0xffff_ffff_f000)))

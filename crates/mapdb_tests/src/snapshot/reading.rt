@@ -131,7 +131,7 @@ fn rows_of_each_kind(rt: HostRuntime) -> Result<(), Fail> {
     };
     let born = Op::Born(Record {
         id,
-        space: Space { number: 2 },
+        space: Space::first(2),
         place: Fpage::new(0x40000, 14)?,
         parent: RecordId {
             number: 3,
@@ -145,7 +145,60 @@ fn rows_of_each_kind(rt: HostRuntime) -> Result<(), Fail> {
         part: Fpage::new(0x41000, 12)?,
         rights: Rights::from_bits(2).ok_or("a set of rights")?,
     });
-    let wanted = [born, cut, Op::Closed(Space { number: 9 })];
+    let wanted = [born, cut, Op::Closed(Space::first(9))];
     expect_operations(&rt, rt.alloc(), text.as_bytes(), &wanted);
     Ok(())
+}
+
+/// A row of each kind of a text with versions.
+const WITH_VERSIONS: &str = "{\"cuts\":[[1,0,65,12,2]],\"ended\":[[9,0],[9,4294967295]],\
+    \"records\":[[1,0,2,7,64,14,0,0,16,5]],\"version\":3}";
+
+#[test]
+fn rows_with_versions(rt: HostRuntime) -> Result<(), Fail> {
+    let id = RecordId {
+        number: 1,
+        processor: 0,
+    };
+    let born = Op::Born(Record {
+        id,
+        space: Space {
+            number: 2,
+            version: 7,
+        },
+        place: Fpage::new(0x40000, 14)?,
+        parent: RecordId::ROOT,
+        source: 16,
+        rights: Rights::from_bits(5).ok_or("a set of rights")?,
+    });
+    let cut = Op::Cut(Revocation {
+        target: id,
+        part: Fpage::new(0x41000, 12)?,
+        rights: Rights::from_bits(2).ok_or("a set of rights")?,
+    });
+    let last = Op::Closed(Space {
+        number: 9,
+        version: u32::MAX,
+    });
+    let wanted = [born, cut, Op::Closed(Space::first(9)), last];
+    expect_operations(&rt, rt.alloc(), WITH_VERSIONS.as_bytes(), &wanted);
+    Ok(())
+}
+
+#[test]
+fn rows_of_another_version(rt: HostRuntime) {
+    for text in [
+        "{\"cuts\":[],\"ended\":[],\"records\":[[1,0,2,7,64,14,0,0,16,5]],\"version\":2}",
+        "{\"cuts\":[],\"ended\":[],\"records\":[[1,0,2,64,14,0,0,16,5]],\"version\":3}",
+        "{\"cuts\":[],\"ended\":[],\"records\":[[1,0,2,4294967296,64,14,0,0,16,5]],\"version\":3}",
+        "{\"cuts\":[],\"ended\":[[9,0]],\"records\":[],\"version\":1}",
+        "{\"cuts\":[],\"ended\":[[9,0]],\"records\":[],\"version\":2}",
+        "{\"cuts\":[],\"ended\":[9],\"records\":[],\"version\":3}",
+        "{\"cuts\":[],\"ended\":[[9]],\"records\":[],\"version\":3}",
+        "{\"cuts\":[],\"ended\":[[9,0,0]],\"records\":[],\"version\":3}",
+        "{\"cuts\":[],\"ended\":[[9,4294967296]],\"records\":[],\"version\":3}",
+        "{\"cuts\":[],\"ended\":[[65536,0]],\"records\":[],\"version\":3}",
+    ] {
+        expect(&rt, rt.alloc(), text.as_bytes(), Some(SnapshotFault::Shape));
+    }
 }

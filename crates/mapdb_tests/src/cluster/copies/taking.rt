@@ -12,7 +12,7 @@ use std::test::Fail;
 fn born(id: RecordId, number: u16, parent: RecordId, rights: Rights) -> Op {
     Op::Born(Record {
         id,
-        space: Space { number },
+        space: Space::first(number),
         place: Fpage::complete(),
         parent,
         source: 0,
@@ -37,7 +37,7 @@ fn of_first(number: u64) -> Op {
 
 /// The end of a space.
 fn end(number: u16) -> Op {
-    Op::Closed(Space { number })
+    Op::Closed(Space::first(number))
 }
 
 /// So many ends of space 5, and then more operations.
