@@ -6,3 +6,6 @@ pub mod Exact
 pub mod Flat
 pub mod Grow
 pub mod Inserted
+pub mod Stepping
+pub mod Tidying
+pub mod United

@@ -7,4 +7,7 @@ pub mod Clashing
 pub mod Both
 pub mod Keys
 pub mod Lends
+pub mod Runs
+pub mod Tidy
+pub mod Regions
 pub mod Lawful

@@ -16,6 +16,7 @@
 //! | [`Flat<T>`](Flat) | its one value | two different values | `()` |
 //! | [`BitsOr`] | the bits that are set in a byte | nothing | `()` |
 //! | [`Grow<K>`](Grow) | its keys | nothing | `()` |
+//! | [`Runs`] | the bits of each page | nothing | `()` |
 //! | [`JoinMap<K, V>`](JoinMap) | each atom of a value, with its key | values under one key | the least such key, with the spot there |
 //! | [`Both<A, B>`](Both) | the atoms of its two parts | the parts | the part, the first one first, with the spot there |
 //!
@@ -44,6 +45,15 @@
 //! assert!(rt; ended.add(3u16)?);
 //! assert!(rt; !ended.add(3)?);
 //! assert!(rt; ended.has(&3) && !ended.has(&4));
+//! ```
+//!
+//! # Bits of pages
+//!
+//! ```
+//! let mut taken = Runs::new(rt.alloc());
+//! assert!(rt; taken.add(3, 2, 0b010)? && taken.add(5, 4, 0b010)?);
+//! assert!(rt; taken.run_from(0) == Some((3, 6, 0b010)));
+//! assert!(rt; !taken.add(4, 2, 0b010)? && taken.at(8) == 0b010);
 //! ```
 //!
 //! # A map
@@ -100,6 +110,7 @@ mod least;
 mod map;
 mod merge;
 mod part;
+mod runs;
 
 pub use bits::BitsOr;
 pub use both::{Both, OneOf};
@@ -110,6 +121,7 @@ pub use least::least_above;
 pub use map::JoinMap;
 pub use merge::{Merge, MergeFault};
 pub use part::MergePart;
+pub use runs::{BITS_LIMIT, RUN_LIMIT, Region, Runs};
 
 #[cfg(test)]
 mod tests;

@@ -5,6 +5,7 @@ use std::alloc::{AllocError, Global};
 use std::test::Fail;
 
 mod examples;
+mod runs;
 
 // A value covers its copy and is covered by it.
 fn covers_its_copy<T: Merge>(value: &T) -> Result<bool, AllocError> {

@@ -2,20 +2,20 @@
 use Rattle.std.proofs.Common.{◌≡◌, ℕ, suc, ◌+◌, ◌-◌, ◌*◌, ◌/◌, ◌%◌, ◌^◌, ◌<◌, ◌≤◌, Bool, true, false, refl, sym, ap, subst, ◌∙◌, List, [], ◌∷◌, ◌++◌, Some, Ok, Err, inl, inr, arith, option_and_then, Result}
 use Rattle.std.specs.Prelude.{◌⊎◌, ◌==◌, nat_lt, nat_le, not, Option, None, if◌then◌else◌, codes}
 use Rattle.std.specs.Str.{is_utf8}
-use Rattle.std.proofs.lemmas.Bool.{and_parts, ltb-true, ltb-false}
+use Rattle.std.proofs.lemmas.Bool.{ltb-true, ltb-false}
 use Rattle.std.proofs.lemmas.Nat.{pow-add}
 use Rattle.std.proofs.Math.Nat.{div-add-mod, lt_of_mul-lt-mul_left, mul-le-mul_left}
 use Rattle.serde_json.specs.Data.{Data, Items, Members, item, no_items}
 use Rattle.serde_json.specs.Find.{as_array, as_number, as_object, as_u64, get_item, get_member}
 use Rattle.serde_json.specs.Read.{read}
-use Rattle.mapdb_fpage.specs.Bounds.{least_order, page_bytes, page_limit}
-use Rattle.mapdb_fpage.specs.Place.{Place, page_total}
+use Rattle.mapdb_fpage.specs.Bounds.{least_order, page_bytes}
+use Rattle.mapdb_fpage.specs.Place.{Place}
 use Rattle.mapdb_fpage.specs.declared.places.FpageFault.{FpageFault}
 use Rattle.mapdb_fpage.specs.declared.places.FpageFault.TheVariants.{OutOfSpace, TooLarge, TooSmall, Unaligned}
 use Rattle.mapdb_facts.specs.Names.{same_id}
 use Rattle.mapdb_facts.specs.Records.{IsAmong}
-use Rattle.mapdb_facts.specs.State.{State, first_of, state_of}
-use Rattle.mapdb_facts.specs.WellFormed.{IsFormedRecord, all_formed}
+use Rattle.mapdb_facts.specs.State.{first_of, state_of}
+use Rattle.mapdb_facts.specs.WellFormed.{IsFormedRecord}
 use Rattle.mapdb_facts.specs.declared.names.RecordId.{RecordId}
 use Rattle.mapdb_facts.specs.declared.names.Space.{Space}
 use Rattle.mapdb_fpage.specs.declared.right_sets.Rights.{Rights}
@@ -23,14 +23,12 @@ use Rattle.mapdb_facts.specs.declared.operations.Op.{Op}
 use Rattle.mapdb_facts.specs.declared.operations.Op.TheVariants.{Born, Closed, Cut}
 use Rattle.mapdb_facts.specs.declared.operations.Record.{Record}
 use Rattle.mapdb_facts.proofs.Formed.{formed_record}
-use Rattle.mapdb_rights.specs.Narrow.{IsNarrow, SourcesBelow}
 use Rattle.mapdb_rights.proofs.Narrow.{narrow_is_enough}
 use Rattle.mapdb_snapshot.specs.Forms.{form_of, narrow, place_within}
-use Rattle.mapdb_snapshot.specs.NarrowTexts.{NarrowTextsAgree, version_by, version_in}
-use Rattle.mapdb_snapshot.specs.Reading.{◌>>=◌, Somewhere, Unplaced, all_of, below, cut_of, end_of, list_under, lists_of, members_count, name_at, number_at, operations_of, or_not_json, or_page, or_shape, placed_all, read_as, record_of, rights_at, row_of, snapshot_of, space_at, space_of, unplaced_at, version_of, whole_below}
+use Rattle.mapdb_snapshot.specs.NarrowTexts.{NarrowTextsAgree, version_by}
+use Rattle.mapdb_snapshot.specs.Reading.{◌>>=◌, Somewhere, Unplaced, all_of, below, cut_of, end_of, list_under, lists_of, members_count, name_at, number_at, or_not_json, or_page, or_shape, placed_all, read_as, record_of, rights_at, row_of, space_at, space_of, unplaced_at, version_of, whole_below}
 use Rattle.mapdb_snapshot.specs.declared.faults.SnapshotFault.{SnapshotFault}
 use Rattle.mapdb_snapshot.specs.declared.faults.SnapshotFault.TheVariants as fault
-use Rattle.mapdb_snapshot.specs.declared.forms.Form.{Form}
 use Rattle.mapdb_snapshot.specs.declared.forms.TheConstants.{NARROW_VERSION}
 use Rattle.mapdb_snapshot.proofs.AtomsComeBack.{formed_among}
 

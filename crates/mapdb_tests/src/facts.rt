@@ -69,3 +69,55 @@ fn large_facts_merge(rt: HostRuntime) -> Result<(), Fail> {
     assert!(rt; copy.covers(&one) && one.covers(&copy));
     Ok(())
 }
+
+/// In which order the pages of one record lose a right.
+#[derive(Clone, Copy)]
+enum PageOrder {
+    Ascending,
+    Descending,
+    Scattered,
+}
+
+impl PageOrder {
+    /// The page that comes at a step, of 65,536.
+    fn page(self, step: u16) -> u64 {
+        match self {
+            PageOrder::Ascending => u64::from(step),
+            PageOrder::Descending => u64::from(u16::MAX - step),
+            PageOrder::Scattered => u64::from(step.wrapping_mul(40_503)),
+        }
+    }
+}
+
+/// A revocation of the right to write from one page of record 1.
+fn one_page(page: u64) -> Option<Op> {
+    Some(Op::Cut(Revocation {
+        target: id(1, 0),
+        part: Fpage::new(page.checked_mul(4096)?, 12).ok()?,
+        rights: Rights::from_bits(2)?,
+    }))
+}
+
+/// Takes the right to write from 65,536 pages of record 1, one after the other. Answers whether each was new.
+fn add_pages(facts: &mut Facts, order: PageOrder) -> Option<bool> {
+    let mut all_new = true;
+    for step in 0..=u16::MAX {
+        all_new &= facts.add(one_page(order.page(step))?) == Ok(true);
+    }
+    Some(all_new)
+}
+
+#[test]
+fn many_parts_of_one_record_are_one_run(rt: HostRuntime) {
+    for order in [
+        PageOrder::Ascending,
+        PageOrder::Descending,
+        PageOrder::Scattered,
+    ] {
+        let mut facts = Facts::new(rt.alloc());
+        assert_eq!(rt; add_pages(&mut facts, order), Some(true));
+        let run = facts.cut_run(id(1, 0), 0x8000);
+        let pages = run.map(|run| (run.first_page, run.page_count, run.rights.bits()));
+        assert_eq!(rt; pages, Some((0, 65_536, 2)));
+    }
+}
