@@ -1,0 +1,103 @@
+"""Each allocation is refused, and each thread: the program says so, or did not need it."""
+
+from collections import Counter
+from concurrent.futures import ThreadPoolExecutor
+from typing import NamedTuple, Optional
+
+from driver.interposer import Counts, Interposer
+from driver.program import NO_MEMORY, Outcome, Program
+from driver.scripts import Script, examples, rows
+from driver.tally import Met, Tally
+
+NAMED = """
+    flush_one_page_of_four every_delivery_order occupied_destination numbers_spent remap_after_unmap
+""".split()
+LONGEST_SCRIPT = 20000
+MOST_REFUSALS = 1000000
+
+FAULTS_OF_THREADS = {
+    "allocation": (b"run fault thread\n", b"run fault link\n"),
+    "thread": (b"run fault thread\n",),
+}
+
+
+class Series(NamedTuple):
+    """Runs of one script, in each of which another allocation or thread is refused."""
+
+    script: Script
+    kind: str
+    is_onward: bool
+
+    def wanted(self, number: int) -> dict[str, int]:
+        return {self.kind: number, "onward": int(self.is_onward)}
+
+    def is_met(self, counts: Counts) -> bool:
+        """Whether something was refused."""
+        if self.kind == "allocation":
+            return counts.refused_allocations > 0
+        return counts.refused_threads > 0
+
+    def end_of(self, whole: Outcome, found: Outcome) -> Optional[str]:
+        """How a run ended in which something was refused, or None where it may not end so."""
+        if found == whole:
+            return "whole"
+        is_front = whole.output.startswith(found.output)
+        if found.status == 4 and found.errors == NO_MEMORY and is_front:
+            return "out of memory"
+        faults = FAULTS_OF_THREADS[self.kind] if self.script.arguments[0] == "threads" else ()
+        if found.status == 1 and found.output == b"" and found.errors in faults:
+            return found.errors.decode().strip()
+        return None
+
+
+def run_series(program: Program, interposer: Interposer, series: Series) -> list[tuple[str, Met]]:
+    """Refuses the Nth one, N from 1 on until a run meets no refusal; tells how each run ended."""
+    script, ends = series.script, []
+    whole = script.outcome()
+    for number in range(1, MOST_REFUSALS):
+        wanted = series.wanted(number)
+        found, counts = interposer.run(program, script.arguments, script.source, **wanted)
+        is_met = series.is_met(counts)
+        end = series.end_of(whole, found) if is_met else "nothing refused"
+        holds = end is not None and (is_met or found == whole)
+        name = "%s, refused %s" % (script.name, wanted)
+        ends.append((end or "wrong", Met(holds, name, str(found))))
+        if not is_met:
+            return ends
+    raise RuntimeError("%s never ends without a refusal" % script.name)
+
+
+def all_series(short: bool) -> list[Series]:
+    """Of all scripts, in the short form of those that are named and the examples."""
+    stored = [script for script in rows() if len(script.source) < LONGEST_SCRIPT]
+    scripts = [script for script in stored if not short or script.name in NAMED] + examples()
+    threaded = [script for script in stored + examples() if script.arguments[0] == "threads"]
+    return [
+        Series(script, kind, is_onward)
+        for kind, some in (("allocation", scripts), ("thread", threaded))
+        for script in some
+        for is_onward in (False, True)
+    ]
+
+
+def run_refusals(program: Program, interposer: Interposer, short: bool, jobs: int) -> Tally:
+    """Refuses each allocation and each thread, alone and with all behind it."""
+    tally, ends = Tally("refusals"), Counter()
+    if not sees_allocations(program, interposer):
+        tally.check(Met(False, "counting", "a script was run, and no allocation was counted"))
+        return tally.end("nothing")
+    every = all_series(short)
+    with ThreadPoolExecutor(jobs) as pool:
+        for found in pool.map(lambda series: run_series(program, interposer, series), every):
+            for end, met in found:
+                ends[end] += 1
+                tally.check(met)
+    names = {series.script.name for series in every}
+    told = ", ".join("%s %d" % pair for pair in sorted(ends.items()))
+    return tally.end("%d scripts, %d series; ends: %s" % (len(names), len(every), told))
+
+
+def sees_allocations(program: Program, interposer: Interposer) -> bool:
+    """Whether the library stands before this program's allocations."""
+    _, counts = interposer.run(program, ["run"], b"processors 1\nend 0 1\nsave 0\n")
+    return counts.allocations > 0

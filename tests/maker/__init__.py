@@ -1,0 +1,1 @@
+"""Random scripts by seed: many that mean something, and many hostile ones."""

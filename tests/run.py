@@ -1,0 +1,90 @@
+#!/usr/bin/env python3
+"""Meets the built program from outside.
+
+    tests/run.py [--short] [--jobs N] [--program PATH] [rows] [refusals] [streams] [hostile] [fuzz]
+    tests/run.py fuzz [--minutes N | --count N] [--seed S]
+
+Runs these kinds of tests, or all. Each tells what it ran, and how many cases passed and failed. The
+last line is the sum, `N passed, M failed`; the status is 0 only where none failed.
+"""
+
+import argparse
+import os
+import sys
+from typing import Optional
+
+sys.path.insert(0, os.path.dirname(os.path.abspath(__file__)))
+
+from driver.fuzz import fuzz  # noqa: E402
+from driver.hostile import run_hostile  # noqa: E402
+from driver.interposer import Interposer, Workshop  # noqa: E402
+from driver.program import BUILT, Program  # noqa: E402
+from driver.refusals import run_refusals  # noqa: E402
+from driver.rows import run_rows  # noqa: E402
+from driver.streams import run_streams  # noqa: E402
+from driver.tally import Tally, total  # noqa: E402
+
+KINDS = ["rows", "refusals", "streams", "hostile", "fuzz"]
+SHORT_COUNT = 5000
+LONG_COUNT = 100000
+
+
+def options() -> argparse.Namespace:
+    parser = argparse.ArgumentParser(description="Meets the built program from outside.")
+    parser.add_argument(
+        "kinds", nargs="*", metavar="KIND", help="of %s (default: all)" % ", ".join(KINDS)
+    )
+    parser.add_argument(
+        "--program", default=BUILT, help="the program's path (default: %(default)s)"
+    )
+    parser.add_argument(
+        "--short", action="store_true", help="a short form of all, in less than five minutes"
+    )
+    parser.add_argument("--minutes", type=float, help="how long fuzz runs")
+    parser.add_argument("--count", type=int, help="how many scripts fuzz runs")
+    parser.add_argument("--seed", type=int, default=1, help="the first seed of fuzz")
+    parser.add_argument("--jobs", type=int, default=1, help="how many runs at a time (default: 1)")
+    found = parser.parse_args()
+    for kind in found.kinds:
+        if kind not in KINDS:
+            parser.error("no such kind: %s" % kind)
+    return found
+
+
+def run_kind(
+    kind: str, chosen: argparse.Namespace, program: Program, interposer: Optional[Interposer]
+) -> Tally:
+    """Runs one kind of tests."""
+    if kind == "rows":
+        return run_rows(program)
+    if kind == "hostile":
+        return run_hostile(program, chosen.short)
+    if kind == "fuzz":
+        count = chosen.count or (
+            None if chosen.minutes else SHORT_COUNT if chosen.short else LONG_COUNT
+        )
+        return fuzz(
+            program, count, chosen.seed, chosen.minutes, chosen.jobs, may_be_great=not chosen.short
+        )
+    if interposer is None:
+        return Tally(kind).skip("there is no C compiler")
+    run_interposed = run_refusals if kind == "refusals" else run_streams
+    return run_interposed(program, interposer, chosen.short, chosen.jobs)
+
+
+def main() -> int:
+    chosen = options()
+    program = Program(chosen.program)
+    if not program.is_there():
+        print("%s is not there: build it first, as ./l4map does" % chosen.program)
+        print("0 passed, 1 failed")
+        return 1
+    with Workshop() as workshop:
+        interposer = workshop.interposer()
+        return total(
+            [run_kind(kind, chosen, program, interposer) for kind in chosen.kinds or KINDS]
+        )
+
+
+if __name__ == "__main__":
+    sys.exit(main())
