@@ -1,0 +1,38 @@
+use Rattle.std.proofs.Common.{◌≡◌, Some, ap, sym, subst, ◌∙◌, arith}
+use Rattle.mapdb_fpage.specs.Bounds.{page_limit}
+use Rattle.mapdb_facts.specs.Facts.{state_of_facts}
+use Rattle.mapdb_facts.specs.Names.{root}
+use Rattle.mapdb_facts.specs.State.{State}
+use Rattle.mapdb_facts.specs.declared.names.RecordId.{RecordId}
+use Rattle.mapdb_rights.proofs.SourcePages.{source_below}
+use Rattle.mapdb_rights.specs.Changes.{AreFrames, cached_in}
+use Rattle.mapdb_rights.specs.Pending.{AreSettledBut, IsPending}
+use Rattle.mapdb_rights.proofs.Built.{left_from_nothing}
+use Rattle.mapdb_rights.proofs.FramesFrom.{no_change_frames}
+use Rattle.mapdb_rights.proofs.Pendings.{pending_last}
+use Rattle.mapdb_rights.proofs.Settlement.{to_covers}
+use Rattle.mapdb_rights.proofs.Results.{on_both}
+use Rattle.mapdb_rights.proofs.index.building.settle_all.Goals as goal
+
+pub settle-requires-clause-settled : goal.settle-requires-clause-settled
+settle-requires-clause-settled c =
+    let S : State = state_of_facts c.args.facts.now in
+    subst (λ e. AreSettledBut S (cached_in e) c.push_children.new.stack.items) (sym c.requires.changes)
+    (left_from_nothing S c.push_children.new.stack.items
+    (λ page below. c.in_ok-push_children.ensures.kept root page (rw c.in_ok-push.ensures.items (pending_last _ _ root page (to_covers root 0 page_limit page (omega arith) below))))
+    (λ id r held parent page inside.
+    let named = c.prove_held.ensures.named id r held in
+    let own : S.record_at r.id ≡ Some r = ap S.record_at named ∙ held in
+    let formed = c.prove_held.ensures.formed r own in
+    let listed = c.in_ok-list_records.ensures.places r own in
+    let below = source_below r page listed.place formed inside in
+    subst (λ (o : RecordId). IsPending c.push_children.new.stack.items o page) named
+    (c.in_ok-push_children.ensures.stale r own formed listed parent page inside (omega arith) below)))
+
+pub settle-requires-clause-frames : goal.settle-requires-clause-frames
+settle-requires-clause-frames c = subst (λ e. AreFrames (state_of_facts c.args.facts.now) e) (sym c.requires.changes) (no_change_frames (state_of_facts c.args.facts.now))
+
+pub returns : goal.returns
+returns c =
+    on_both c.settle.result (λ are frames. record { rights = are; frames = frames; listed_there = c.in_ok-list_records.ensures })
+    c.settle.ensures.rights c.settle.ensures.frames

@@ -1,0 +1,36 @@
+use Rattle.std.proofs.Common.{◌∙◌}
+use Rattle.std.specs.Prelude.{◌&&◌, nat_le, nat_lt}
+use Rattle.std.proofs.lemmas.Bool.{and_from}
+use Rattle.mapdb_fpage.specs.Place.{holds}
+use Rattle.mapdb_facts.specs.Facts.{state_of_facts}
+use Rattle.mapdb_facts.specs.Names.{same_id}
+use Rattle.mapdb_facts.specs.declared.operations.Op.TheVariants.{Cut}
+use Rattle.mapdb_rights.specs.Changes.{cached_in}
+use Rattle.mapdb_rights.proofs.Followed.{frames_by_op, left_by_op, listed_by_cut}
+use Rattle.mapdb_rights.proofs.Pendings.{pending_last}
+use Rattle.mapdb_rights.proofs.Results.{on_both}
+use Rattle.mapdb_rights.proofs.index.following.follow_cut.Goals as goal
+
+pub settle-requires-clause-listed : goal.settle-requires-clause-listed
+settle-requires-clause-listed c =
+    listed_by_cut (state_of_facts c.args.facts.now) c.requires.stood.before c.args.cut.now c.args.listed.now c.requires.stood.is c.requires.stood.stood.listed_there
+
+pub settle-requires-clause-settled : goal.settle-requires-clause-settled
+settle-requires-clause-settled c =
+    left_by_op (state_of_facts c.args.facts.now) c.requires.stood.before (Cut c.args.cut.now) (cached_in c.args.changes.now.entries) c.push.new.self.items
+    c.requires.stood.is c.requires.stood.stood.rights
+    (λ id page stirs. rw c.in_ok-push.ensures.items (pending_last _ _ id page
+    ((λ i. same_id c.args.cut.now.target id && (nat_le (c.first_page.ensures.page i) page && nat_lt page (c.end.ensures.end i)))
+    ∙ and_from (same_id c.args.cut.now.target id) (holds c.args.cut.now.part page) stirs.0 stirs.1)))
+
+pub settle-requires-clause-frames : goal.settle-requires-clause-frames
+settle-requires-clause-frames c = frames_by_op (state_of_facts c.args.facts.now) c.requires.stood.before (Cut c.args.cut.now) c.args.changes.now.entries c.requires.stood.is c.requires.stood.stood.frames
+
+pub returns : goal.returns
+returns c =
+    on_both c.settle.result
+    (λ are frames. record {
+      rights = are;
+      frames = frames;
+      listed_there = listed_by_cut (state_of_facts c.args.facts.now) c.requires.stood.before c.args.cut.now c.args.listed.now c.requires.stood.is c.requires.stood.stood.listed_there;
+    }) c.settle.ensures.rights c.settle.ensures.frames

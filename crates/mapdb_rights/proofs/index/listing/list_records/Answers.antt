@@ -1,0 +1,19 @@
+use Rattle.std.proofs.Common.{subst, inl, inr}
+use Rattle.mapdb_facts.specs.Facts.{state_of_facts}
+use Rattle.mapdb_facts.specs.declared.operations.Record.{Record}
+use Rattle.mapdb_rights.specs.Listing.{IsListed}
+use Rattle.mapdb_rights.proofs.Ended.{later_or_same}
+use Rattle.mapdb_rights.proofs.Followed.{listed_on}
+use Rattle.mapdb_rights.proofs.index.listing.list_records.Goals as goal
+
+pub records-preserved : goal.records-preserved
+records-preserved c = record {
+  aligned = c.in_ok-list_record.ensures.aligned;
+  places = λ r held. elim (c.records.invariant.places r held) [
+    | inr listed ↦ inr (listed_on c.records.listed c.list_record.new.listed c.in_ok-list_record.ensures.kept r listed)
+    | inl after ↦ elim (later_or_same (state_of_facts c.args.facts.now) c.in-Some.mapping r c.in-Some.ensures.found.held held (c.in-Some.ensures.found.least r held after)) [
+      | inl later ↦ inl later
+      | inr one ↦ inr (subst (λ (s : Record). IsListed c.list_record.new.listed s) one c.in_ok-list_record.ensures.there)
+    ]
+  ];
+}

@@ -1,0 +1,12 @@
+use Rattle.mapdb_facts.specs.Facts.{state_of_facts}
+use Rattle.mapdb_rights.specs.Listing.{left_above}
+use Rattle.mapdb_rights.proofs.PlaceNames.{entry_of}
+use Rattle.mapdb_rights.proofs.ShownNames.{Further}
+use Rattle.mapdb_rights.proofs.index.live_names.shown_after.Given as goal
+
+-- none of those that are left out has a right at the page
+abbrev pub invariant-names : goal.invariant-names
+invariant-names l = Further l.listed (state_of_facts l.facts) l.space l.page l.place l.fn.after l.from
+
+abbrev pub decreases-names : goal.decreases-names
+decreases-names l = left_above l.listed (entry_of l.place l.from)

@@ -1,0 +1,25 @@
+use Rattle.std.proofs.Common.{◌≡◌, Some, ap, refl, sym, subst, ◌∙◌}
+use Rattle.std.specs.Prelude.{None}
+use Rattle.mapdb_facts.specs.State.{nothing}
+use Rattle.mapdb_facts.specs.declared.operations.Record.{Record}
+use Rattle.mapdb_rights.specs.Changes.{AreFrames, cached_in}
+use Rattle.mapdb_rights.proofs.FramesFrom.{no_change_frames}
+use Rattle.mapdb_rights.proofs.Ended.{empty_stands}
+use Rattle.mapdb_rights.proofs.Entries.{none_aligned}
+use Rattle.mapdb_rights.proofs.index.rights_index.RightsIndex.new.Goals as goal
+
+pub returns : goal.returns
+returns c = record {
+  there = refl;
+  stands = record {
+    rights = λ id page. ap (λ e. cached_in e id page) c.new.ensures.empty ∙ empty_stands id page;
+    frames = subst (λ e. AreFrames nothing e) (sym c.new.ensures.empty) (no_change_frames nothing);
+    listed_there = record {
+      places = λ r held. absurd (none_some r held);
+      aligned = none_aligned c.new-2.result c.new-2.ensures.empty;
+    };
+  };
+}
+  where
+    none_some : (r : Record) → None ≡ Some r → ⊥
+    none_some r e = cc

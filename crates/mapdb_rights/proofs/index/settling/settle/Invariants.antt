@@ -1,0 +1,14 @@
+use Rattle.mapdb_facts.specs.Facts.{state_of_facts}
+use Rattle.mapdb_rights.specs.Changes.{AreFrames, cached_in}
+use Rattle.mapdb_rights.specs.Pending.{AreSettledBut, base_of, weight}
+use Rattle.mapdb_rights.proofs.index.settling.settle.Given as goal
+
+-- all but what is stale follows from the parents', and no frame is wrong
+abbrev pub invariant-stale : goal.invariant-stale
+invariant-stale l = record {
+  settled : AreSettledBut (state_of_facts l.facts) (cached_in l.changes.entries) l.stack.items;
+  frames : AreFrames (state_of_facts l.facts) l.changes.entries;
+}
+
+abbrev pub decreases-stale : goal.decreases-stale
+decreases-stale l = weight (base_of l.listed) l.stack.items

@@ -1,0 +1,43 @@
+use Rattle.std.proofs.Common.{◌≡◌, Some, ap, sym, subst, ◌∙◌, inl}
+use Rattle.mapdb_fpage.specs.RightSets.{is_empty}
+use Rattle.mapdb_facts.specs.Exact.{exact_rights}
+use Rattle.mapdb_facts.specs.Facts.{state_of_facts}
+use Rattle.mapdb_facts.specs.State.{State}
+use Rattle.mapdb_facts.specs.declared.names.RecordId.{RecordId}
+use Rattle.mapdb_rights.specs.Caching.{Cached}
+use Rattle.mapdb_rights.specs.Changes.{cached_in}
+use Rattle.mapdb_rights.specs.Pending.{IsPending}
+use Rattle.mapdb_rights.proofs.FramesFrom.{frames_written}
+use Rattle.mapdb_rights.proofs.Settlement.{settled_after, settled_already}
+use Rattle.mapdb_rights.proofs.Results.{on_any, on_ok}
+use Rattle.mapdb_rights.proofs.index.settling.settle_run.Goals as goal
+
+pub returns-then-eq-clause-settled : goal.returns-then-eq-clause-settled
+returns-then-eq-clause-settled c id page before =
+    let S : State = state_of_facts c.args.facts.now in
+    let cached : Cached = cached_in c.args.changes.now.entries in
+    let known : c.change_from-change.result.rights ≡ cached_in c.args.changes.now.entries c.args.stale.id c.args.stale.first = exact_rights c.change_from-change.result.rights c.cached_at.result (sym c.eq.ensures ∙ c.if-eq.true) ∙ c.cached_at.ensures in
+    inl (settled_already S cached cached c.args.stale.id c.args.stale.first c.args.end c.change_from-change.result.rights c.change_from-change.ensures.rights c.requires.same c.requires.kept known id page before)
+
+pub returns-clause-settled : goal.returns-clause-settled
+returns-clause-settled c =
+    let S : State = state_of_facts c.args.facts.now in
+    on_ok c.push_children.result
+    (λ pushed. settled_after S (cached_in c.args.changes.now.entries) (cached_in c.write.new.changes.entries) c.args.stale.id c.args.stale.first c.args.end c.change_from-change.result.rights
+    c.change_from-change.ensures.rights c.requires.same c.in_ok-write.ensures.cached c.push_children.new.stack.items
+    (λ other r held parent page inside from before.
+    let named = c.prove_held.ensures.named other r held in
+    let own : S.record_at r.id ≡ Some r = ap S.record_at named ∙ held in
+    let listed = c.requires.listed.places r own in
+    subst (λ (o : RecordId). IsPending c.push_children.new.stack.items o page) named
+    (pushed r own (c.prove_held.ensures.formed r own) listed parent page inside from before)))
+    c.push_children.ensures.stale
+
+pub returns-clause-frames : goal.returns-clause-frames
+returns-clause-frames c =
+    let S : State = state_of_facts c.args.facts.now in
+    on_any c.push_children.result
+    (frames_written S c.args.changes.now.entries c.write.new.changes.entries c.args.stale.id c.args.stale.first c.args.end c.change_from-change.result c.requires.frames
+    (λ some q from before. c.requires.frames_on (ap is_empty (sym c.change_from-change.ensures.rights) ∙ some) c.change_from-change.result.shift
+    (c.change_from-change.ensures.frame c.requires.frames some) q from before)
+    c.in_ok-write.ensures.seen)

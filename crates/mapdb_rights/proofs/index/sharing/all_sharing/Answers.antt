@@ -1,0 +1,23 @@
+use Rattle.std.proofs.Common.{◌∙◌, List, sym, subst}
+use Rattle.std.specs.Prelude.{All}
+use Rattle.std.proofs.lemmas.Result.{IfOk-weaker}
+use Rattle.mapdb_facts.specs.WellFormed.{IsFormedRecord}
+use Rattle.mapdb_facts.specs.declared.operations.Record.{Record}
+use Rattle.mapdb_rights.specs.Meeting.{shares_part}
+use Rattle.mapdb_rights.proofs.NamedRecords.{all_filtered}
+use Rattle.mapdb_rights.proofs.SharedPlaces.{sharing_is_all}
+use Rattle.mapdb_rights.proofs.index.sharing.all_sharing.Goals as goal
+
+pub returns-clause-sharing : goal.returns-clause-sharing
+returns-clause-sharing c =
+    let all = sharing_is_all c.args.facts.now c.args.listed.now c.args.owner c.args.part.now c.in_ok-names.names.keys c.first_page.result c.end.result
+    c.prove_held.ensures.named c.requires c.first_page.ensures.page c.end.ensures.end c.in_ok-names.ensures.ordered c.in_ok-names.ensures.names in
+    IfOk-weaker c.named_sharing.result _ _ (λ found is. is ∙ all) c.named_sharing.ensures
+
+pub returns-clause-formed : goal.returns-clause-formed
+returns-clause-formed c =
+    let all = sharing_is_all c.args.facts.now c.args.listed.now c.args.owner c.args.part.now c.in_ok-names.names.keys c.first_page.result c.end.result
+    c.prove_held.ensures.named c.requires c.first_page.ensures.page c.end.ensures.end c.in_ok-names.ensures.ordered c.in_ok-names.ensures.names in
+    IfOk-weaker c.named_sharing.result _ _
+    (λ found is. subst (λ (xs : List Record). All IsFormedRecord xs) (sym (is ∙ all))
+    (all_filtered c.args.facts.now (shares_part c.args.owner c.args.part.now) IsFormedRecord c.prove_held.ensures.named c.prove_held.ensures.formed)) c.named_sharing.ensures

@@ -1,0 +1,5 @@
+use Rattle.mapdb_rights.proofs.Stirring.{operations_stir}
+use Rattle.mapdb_rights.proofs.laws.operations_stir.Goals as goal
+
+pub returns : goal.returns
+returns c = operations_stir

@@ -1,0 +1,5 @@
+use Rattle.mapdb_rights.proofs.Settled.{settled_is_exact}
+use Rattle.mapdb_rights.proofs.laws.settled_is_exact.Goals as goal
+
+pub returns : goal.returns
+returns c = settled_is_exact

@@ -1,0 +1,40 @@
+//! Cached rights of whole facts.
+
+ghost use Rattle.std.specs.Prelude.{◌≡◌, [], OnOk};
+ghost use Rattle.mapdb_facts.specs.Facts.{state_of_facts};
+ghost use Rattle.mapdb_rights.specs.Listing.{AllAligned};
+ghost use Rattle.mapdb_rights.specs.Following.{Stands};
+
+use super::changes::{Change, Spot};
+use super::children::push_children;
+use super::listing::list_records;
+use super::places::Listed;
+use super::settling::settle;
+use super::stale::Stale;
+use mapdb_facts::{Facts, RecordId};
+use mapdb_fpage::PAGE_LIMIT;
+use std::alloc::{AllocError, Global};
+use std::collections::{BTreeMap, BTreeSet};
+
+/// From no changes on all is settled, beginning with the root and what has its pages from there.
+pub fn settle_all(
+    changes: &mut BTreeMap<Spot, Change>,
+    listed: &mut BTreeSet<Listed>,
+    alloc: Global,
+    facts: &Facts,
+) -> Result<(), AllocError>
+    requires changes { changes.old.entries ≡ [] }
+    requires listed { AllAligned listed.old }
+    ensures { OnOk result (Stands changes.new listed.new (state_of_facts facts.now)) }
+{
+    facts.prove_held();
+    list_records(listed, facts)?;
+    let mut stack = Vec::new(alloc);
+    stack.push(Stale {
+        id: RecordId::ROOT,
+        first: 0,
+        end: PAGE_LIMIT,
+    })?;
+    push_children(&mut stack, listed, facts, RecordId::ROOT, 0, PAGE_LIMIT)?;
+    settle(changes, &mut stack, listed, facts)
+}

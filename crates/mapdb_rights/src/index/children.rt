@@ -1,0 +1,152 @@
+//! What has its pages from a record, and what stands in a space: their pages join what is stale.
+
+ghost use Rattle.std.specs.Prelude.{◌≡◌, ◌≤◌, ◌<◌, ◌+◌, ◌*◌, ℕ, true, Some, OnOk};
+ghost use Rattle.std.specs.BTreeSet.{btree_set_len};
+ghost use Rattle.mapdb_fpage.specs.Place.{holds};
+ghost use Rattle.mapdb_facts.specs.Facts.{state_of_facts};
+ghost use Rattle.mapdb_facts.specs.Looking.{Holds};
+ghost use Rattle.mapdb_facts.specs.Names.{same_id, same_space};
+ghost use Rattle.mapdb_facts.specs.WellFormed.{IsFormedRecord};
+ghost use Rattle.mapdb_facts.specs.declared.names.RecordId.{RecordId};
+ghost use Rattle.mapdb_facts.specs.declared.operations.Record.{Record};
+ghost use Rattle.mapdb_rights.specs.Listing.{AllAligned, IsListed};
+ghost use Rattle.mapdb_rights.specs.Pending.{IsPending, share, weight};
+ghost use Rattle.mapdb_rights.specs.Right.{source_page};
+
+use super::places::{Listed, Owner, next_meeting};
+use super::stale::Stale;
+use mapdb_facts::{Facts, Record, RecordId, Space};
+use mapdb_fpage::PAGE_LIMIT;
+use std::alloc::AllocError;
+use std::collections::BTreeSet;
+
+/// The pages of the child whose source pages are among these join what is stale.
+fn push_child(
+    stack: &mut Vec<Stale>,
+    child: &Record,
+    first: u64,
+    end: u64,
+) -> Result<(), AllocError>
+    requires { IsFormedRecord child.now }
+    ensures kept { OnOk result ((id : RecordId) (page : ℕ)
+        → IsPending stack.old.items id page → IsPending stack.new.items id page) }
+    ensures stale { OnOk result ((page : ℕ) → holds child.now.place page ≡ true
+        → first ≤ source_page child.now page → source_page child.now page < end
+        → IsPending stack.new.items child.now.id page) }
+    ensures weight { OnOk result ((base : ℕ) → weight base stack.new.items
+        ≤ weight base stack.old.items + share base child.now.id.number) }
+{
+    let low = first.max(child.source);
+    let high = end.min(child.source + child.place.page_count());
+    if low >= high {
+        return Ok(());
+    }
+    let first_page = child.place.first_page();
+    stack.push(Stale {
+        id: child.id,
+        first: first_page + (low - child.source),
+        end: first_page + (high - child.source),
+    })?;
+    Ok(())
+}
+
+/// The pages of a child, if it is one of this parent, join what is stale.
+fn push_held(
+    stack: &mut Vec<Stale>,
+    facts: &Facts,
+    parent: RecordId,
+    id: RecordId,
+    first: u64,
+    end: u64,
+) -> Result<(), AllocError>
+    ensures kept { OnOk result ((other : RecordId) (page : ℕ)
+        → IsPending stack.old.items other page → IsPending stack.new.items other page) }
+    ensures stale { OnOk result ((r : Record) → (state_of_facts facts.now).record_at id ≡ Some r
+        → same_id r.parent parent ≡ true → (page : ℕ) → holds r.place page ≡ true
+        → first ≤ source_page r page → source_page r page < end
+        → IsPending stack.new.items id page) }
+    ensures weight { OnOk result ((base : ℕ) → 0 < base → weight base stack.new.items
+        ≤ weight base stack.old.items + share base (parent.number + 1)) }
+{
+    match facts.record(id) {
+        Some(child) if child.parent.is(parent) => push_child(stack, &child, first, end),
+        _ => Ok(()),
+    }
+}
+
+/// The children of the parent whose source meets these pages: their pages that come from there join what is stale.
+pub(crate) fn push_children(
+    stack: &mut Vec<Stale>,
+    listed: &BTreeSet<Listed>,
+    facts: &Facts,
+    parent: RecordId,
+    first: u64,
+    end: u64,
+) -> Result<(), AllocError>
+    requires { AllAligned listed.now }
+    ensures kept { OnOk result ((id : RecordId) (page : ℕ)
+        → IsPending stack.old.items id page → IsPending stack.new.items id page) }
+    ensures stale { OnOk result ((r : Record) → Holds (state_of_facts facts.now) r → IsFormedRecord r
+        → IsListed listed.now r → r.parent ≡ parent → (page : ℕ) → holds r.place page ≡ true
+        → first ≤ source_page r page → source_page r page < end
+        → IsPending stack.new.items r.id page) }
+    ensures weight { OnOk result ((base : ℕ) → 0 < base → weight base stack.new.items
+        ≤ weight base stack.old.items
+        + btree_set_len listed.now * share base (parent.number + 1)) }
+{
+    let mut after = None;
+    'children: while let Some(child) = next_meeting(
+        listed,
+        Owner::Record(parent),
+        first,
+        end,
+        after,
+    ) {
+        push_held(stack, facts, parent, child.id, first, end)?;
+        after = Some(child);
+    }
+    Ok(())
+}
+
+/// The pages of a record's place join what is stale.
+fn push_place(stack: &mut Vec<Stale>, facts: &Facts, id: RecordId) -> Result<(), AllocError>
+    ensures kept { OnOk result ((other : RecordId) (page : ℕ)
+        → IsPending stack.old.items other page → IsPending stack.new.items other page) }
+    ensures stale { OnOk result ((r : Record) → (state_of_facts facts.now).record_at id ≡ Some r → (page : ℕ)
+        → holds r.place page ≡ true → IsPending stack.new.items id page) }
+{
+    if let Some(mapping) = facts.record(id) {
+        stack.push(Stale {
+            id,
+            first: mapping.place.first_page(),
+            end: mapping.place.end(),
+        })?;
+    }
+    Ok(())
+}
+
+/// The pages of all records into a space join what is stale.
+pub(crate) fn push_space(
+    stack: &mut Vec<Stale>,
+    listed: &BTreeSet<Listed>,
+    facts: &Facts,
+    space: Space,
+) -> Result<(), AllocError>
+    requires { AllAligned listed.now }
+    ensures { OnOk result ((r : Record) → Holds (state_of_facts facts.now) r → IsListed listed.now r
+        → same_space space r.space ≡ true → (page : ℕ) → holds r.place page ≡ true
+        → IsPending stack.new.items r.id page) }
+{
+    let mut after = None;
+    'places: while let Some(entry) = next_meeting(
+        listed,
+        Owner::Space(space),
+        0,
+        PAGE_LIMIT,
+        after,
+    ) {
+        push_place(stack, facts, entry.id)?;
+        after = Some(entry);
+    }
+    Ok(())
+}

@@ -1,0 +1,83 @@
+//! What an operation does to cached rights.
+
+ghost use Rattle.std.specs.Prelude.{◌≡◌, ℕ, true, OnOk};
+ghost use Rattle.mapdb_fpage.specs.Place.{holds};
+ghost use Rattle.mapdb_facts.specs.Looking.{Holds};
+ghost use Rattle.mapdb_facts.specs.Names.{same_space};
+ghost use Rattle.mapdb_facts.specs.declared.operations.Record.{Record};
+ghost use Rattle.mapdb_rights.specs.Pending.{IsPending};
+ghost use Rattle.mapdb_facts.specs.Facts.{state_of_facts};
+ghost use Rattle.mapdb_facts.specs.State.{State, join, said};
+ghost use Rattle.mapdb_facts.specs.WellFormed.{is_formed};
+ghost use Rattle.mapdb_facts.specs.declared.operations.Op.{Op};
+ghost use Rattle.mapdb_rights.specs.Following.{Stood, Stands};
+
+use super::changes::{Change, Spot};
+use super::children::push_space;
+use super::listing::list_record;
+use super::places::Listed;
+use super::settling::settle;
+use super::stale::Stale;
+use mapdb_facts::{Facts, Record, Revocation, Space};
+use std::alloc::{AllocError, Global};
+use std::collections::{BTreeMap, BTreeSet};
+
+/// A record came: it takes its rights from its parent, and what waited for it follows.
+pub fn follow_record(
+    changes: &mut BTreeMap<Spot, Change>,
+    listed: &mut BTreeSet<Listed>,
+    alloc: Global,
+    facts: &Facts,
+    mapping: &Record,
+) -> Result<(), AllocError>
+    requires formed { is_formed (Op.Born mapping.now) ≡ true }
+    requires stood { Stood changes.old listed.old (Op.Born mapping.now) (state_of_facts facts.now) }
+    ensures { OnOk result (Stands changes.new listed.new (state_of_facts facts.now)) }
+{
+    list_record(listed, mapping)?;
+    let mut stack = Vec::new(alloc);
+    stack.push(Stale {
+        id: mapping.id,
+        first: mapping.place.first_page(),
+        end: mapping.place.end(),
+    })?;
+    settle(changes, &mut stack, listed, facts)
+}
+
+/// Rights were taken from a part of a record: it loses them, and what has its pages from there follows.
+pub fn follow_cut(
+    changes: &mut BTreeMap<Spot, Change>,
+    listed: &BTreeSet<Listed>,
+    alloc: Global,
+    facts: &Facts,
+    cut: &Revocation,
+) -> Result<(), AllocError>
+    requires formed { is_formed (Op.Cut cut.now) ≡ true }
+    requires stood { Stood changes.old listed.now (Op.Cut cut.now) (state_of_facts facts.now) }
+    ensures { OnOk result (Stands changes.new listed.now (state_of_facts facts.now)) }
+{
+    let mut stack = Vec::new(alloc);
+    stack.push(Stale {
+        id: cut.target,
+        first: cut.part.first_page(),
+        end: cut.part.end(),
+    })?;
+    settle(changes, &mut stack, listed, facts)
+}
+
+/// A space ended: its records lose their rights, and what has its pages from there follows.
+pub fn follow_end(
+    changes: &mut BTreeMap<Spot, Change>,
+    listed: &BTreeSet<Listed>,
+    alloc: Global,
+    facts: &Facts,
+    space: Space,
+) -> Result<(), AllocError>
+    requires stood { Stood changes.old listed.now (Op.Closed space) (state_of_facts facts.now) }
+    ensures { OnOk result (Stands changes.new listed.now (state_of_facts facts.now)) }
+{
+    facts.prove_held();
+    let mut stack = Vec::new(alloc);
+    push_space(&mut stack, listed, facts, space)?;
+    settle(changes, &mut stack, listed, facts)
+}

@@ -1,0 +1,202 @@
+//! The records of a space that have a right at a page, found among the places that hold it.
+
+ghost use Rattle.std.specs.Prelude.{◌≡◌, ◌&&◌, not, IfOk};
+ghost use Rattle.mapdb_facts.specs.Facts.{records_of_facts, state_of_facts};
+ghost use Rattle.mapdb_facts.specs.Names.{is_after, is_first_space, root};
+ghost use Rattle.mapdb_fpage.specs.Bounds.{page_limit};
+ghost use Rattle.mapdb_fpage.specs.RightSets.{is_empty};
+ghost use Rattle.mapdb_rights.specs.Among.{behind_name, IsLeastOf, IsLiveRoot, IsShown, IsShownAt, StandsAt, is_shown, lesser};
+ghost use Rattle.mapdb_rights.specs.Following.{Stands};
+ghost use Rattle.mapdb_rights.specs.Listing.{IsFirstInside};
+ghost use Rattle.mapdb_rights.specs.Live.{IsLive, IsLiveFrom, live_names};
+ghost use Rattle.mapdb_rights.specs.PageRights.{is_record_into};
+ghost use Rattle.mapdb_rights.specs.Right.{rights_at};
+
+use super::changes::{Change, Spot, cached_at};
+use super::places::{Listed, Owner, first_above, first_from, next_meeting};
+use mapdb_facts::{Facts, RecordId, Space};
+use mapdb_fpage::PAGE_LIMIT;
+use std::alloc::{AllocError, Global};
+use std::collections::{BTreeMap, BTreeSet};
+
+/// The lesser of two names.
+fn lesser(one: Option<RecordId>, other: Option<RecordId>) -> Option<RecordId>
+    ensures { result ≡ lesser one other }
+{
+    match (one, other) {
+        (Some(a), Some(b)) => Some(if b.is_before(a) { b } else { a }),
+        (Some(a), None) => Some(a),
+        (None, found) => found,
+    }
+}
+
+/// The first entry of a place's owner that stands at the place under a name above another, or behind the place.
+fn entry_after(listed: &BTreeSet<Listed>, place: Listed, after: Option<RecordId>) -> Option<Listed>
+    ensures { IsFirstInside listed.now place.owner (behind_name place after) result }
+{
+    match after {
+        Some(id) => first_above(listed, Listed { id, ..place }),
+        None => first_from(
+            listed,
+            Listed {
+                id: RecordId::ROOT,
+                ..place
+            },
+        ),
+    }
+}
+
+/// The least name above another, or of all, that stands at the place.
+fn name_after(listed: &BTreeSet<Listed>, place: Listed, after: Option<RecordId>) -> Option<RecordId>
+    ensures { IsLeastOf (StandsAt listed.now place) (StandsAt listed.now place) after result }
+{
+    match entry_after(listed, place, after) {
+        Some(entry) if entry.order == place.order && entry.first == place.first => Some(entry.id),
+        _ => None,
+    }
+}
+
+/// Whether the name is that of a record into the space.
+fn is_into(facts: &Facts, space: Space, id: RecordId) -> bool
+    ensures { result ≡ is_record_into ((state_of_facts facts.now).record_at id) space }
+{
+    match facts.record(id) {
+        Some(mapping) => mapping.space.is(space),
+        None => false,
+    }
+}
+
+/// Whether the name is that of a record into the space with a right at the page.
+fn is_shown(
+    changes: &BTreeMap<Spot, Change>,
+    listed: &BTreeSet<Listed>,
+    facts: &Facts,
+    space: Space,
+    page: u64,
+    id: RecordId,
+) -> bool
+    requires { Stands changes.now listed.now (state_of_facts facts.now) }
+    ensures { result ≡ is_shown (state_of_facts facts.now) space page id }
+{
+    is_into(facts, space, id) && !cached_at(changes, id, page).is_none()
+}
+
+/// The least of the names at a place above another, or of all, whose records of the space have a right at the page.
+fn shown_after(
+    changes: &BTreeMap<Spot, Change>,
+    listed: &BTreeSet<Listed>,
+    facts: &Facts,
+    space: Space,
+    page: u64,
+    place: Listed,
+    after: Option<RecordId>,
+) -> Option<RecordId>
+    requires { Stands changes.now listed.now (state_of_facts facts.now) }
+    ensures { IsLeastOf (IsShown (state_of_facts facts.now) space page)
+        (IsShownAt listed.now (state_of_facts facts.now) space page place) after result }
+{
+    let mut from = after;
+    'names: while let Some(id) = name_after(listed, place, from) {
+        if is_shown(changes, listed, facts, space, page, id) {
+            return Some(id);
+        }
+        from = Some(id);
+    }
+    None
+}
+
+/// Whether the root comes: it is of the space, has a right at the page, and nothing stands before it.
+fn root_comes(
+    changes: &BTreeMap<Spot, Change>,
+    listed: &BTreeSet<Listed>,
+    facts: &Facts,
+    space: Space,
+    page: u64,
+    after: Option<RecordId>,
+) -> bool
+    requires { Stands changes.now listed.now (state_of_facts facts.now) }
+    ensures { result ≡ (is_after after root && is_first_space space
+        && not (is_empty (rights_at (state_of_facts facts.now) root page))) }
+{
+    after.is_none() && space.is_first() && !cached_at(changes, RecordId::ROOT, page).is_none()
+}
+
+/// The root, where it comes.
+fn root_after(
+    changes: &BTreeMap<Spot, Change>,
+    listed: &BTreeSet<Listed>,
+    facts: &Facts,
+    space: Space,
+    page: u64,
+    after: Option<RecordId>,
+) -> Option<RecordId>
+    requires { Stands changes.now listed.now (state_of_facts facts.now) }
+    ensures { IsLeastOf (IsLive (state_of_facts facts.now) space page)
+        (IsLiveRoot (state_of_facts facts.now) space page) after result }
+{
+    if root_comes(changes, listed, facts, space, page, after) {
+        Some(RecordId::ROOT)
+    } else {
+        None
+    }
+}
+
+/// What stands behind all entries of an entry's order.
+fn behind_order(entry: Listed) -> Listed
+    ensures { result ≡ record entry { first = page_limit } }
+{
+    Listed {
+        first: PAGE_LIMIT,
+        ..entry
+    }
+}
+
+/// The least record of the space above another name, or of all, that has a right at the page; in the first space the root is
+/// one of them. It takes no memory: of each order one place holds the page, and its names ascend.
+pub(crate) fn live_after(
+    changes: &BTreeMap<Spot, Change>,
+    listed: &BTreeSet<Listed>,
+    facts: &Facts,
+    space: Space,
+    page: u64,
+    after: Option<RecordId>,
+) -> Option<RecordId>
+    requires { Stands changes.now listed.now (state_of_facts facts.now) }
+    ensures { IsLiveFrom (state_of_facts facts.now) space page after result }
+{
+    facts.prove_held();
+    let owner = Owner::Space(space);
+    let end = page.saturating_add(1);
+    let mut found = root_after(changes, listed, facts, space, page, after);
+    let mut passed = None;
+    'orders: while let Some(entry) = next_meeting(listed, owner, page, end, passed) {
+        let shown = shown_after(changes, listed, facts, space, page, entry, after);
+        found = lesser(found, shown);
+        passed = Some(behind_order(entry));
+    }
+    found
+}
+
+/// The names of all records of the space that have a right at the page, in ascending order; in the first space the root is
+/// one of them.
+pub(crate) fn all_live(
+    alloc: Global,
+    changes: &BTreeMap<Spot, Change>,
+    listed: &BTreeSet<Listed>,
+    facts: &Facts,
+    space: Space,
+    page: u64,
+) -> Result<Vec<RecordId>, AllocError>
+    requires { Stands changes.now listed.now (state_of_facts facts.now) }
+    ensures { IfOk result (λ found. found.items
+        ≡ live_names (state_of_facts facts.now) (records_of_facts facts.now) space page) }
+{
+    facts.prove_held();
+    let mut found = Vec::new(alloc);
+    let mut after = None;
+    'names: while let Some(id) = live_after(changes, listed, facts, space, page, after) {
+        found.push(id)?;
+        after = Some(id);
+    }
+    Ok(found)
+}

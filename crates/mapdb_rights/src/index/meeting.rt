@@ -1,0 +1,60 @@
+//! The records whose places, or whose sources, share pages with a place.
+
+use super::places::Owner;
+use super::rights_index::RightsIndex;
+use super::sharing::all_sharing;
+use mapdb_facts::{Facts, Record, RecordId, Space};
+use mapdb_fpage::Fpage;
+use std::alloc::AllocError;
+
+impl RightsIndex {
+    ghost use Rattle.std.specs.Prelude.{◌≡◌, Ok, None, All, IfOk, IfSome, IsSome, false, true};
+    ghost use Rattle.mapdb_facts.specs.Facts.{records_of_facts, state_of_facts};
+    ghost use Rattle.mapdb_facts.specs.WellFormed.{IsFormedRecord};
+    ghost use Rattle.mapdb_rights.specs.Index.{KeepsUp};
+    ghost use Rattle.mapdb_rights.specs.Meeting.{children_of, holders_of};
+
+    /// The records of a space whose places share pages with this one, in ascending order of name. None where the index is
+    /// absent. An error where memory was wanted for the list.
+    pub fn holders(
+        &self,
+        facts: &Facts,
+        space: Space,
+        part: &Fpage,
+    ) -> Result<Option<Vec<Record>>, AllocError>
+        requires { KeepsUp self.now (state_of_facts facts.now) }
+        ensures absent { self.now.absent ≡ true → result ≡ Ok None }
+        ensures there { self.now.absent ≡ false → IfOk result (λ found. IsSome found) }
+        ensures holders { IfOk result (λ found. IfSome found (λ list. list.items
+            ≡ holders_of (records_of_facts facts.now) space part.now)) }
+        ensures formed { IfOk result (λ found. IfSome found (λ list. All IsFormedRecord list.items)) }
+    {
+        if self.absent {
+            return Ok(None);
+        }
+        let found = all_sharing(self.alloc, &self.listed, facts, Owner::Space(space), part)?;
+        Ok(Some(found))
+    }
+
+    /// The children of a record, or of a name that is not held, whose sources share pages with this place, in ascending order
+    /// of name. None where the index is absent. An error where memory was wanted for the list.
+    pub fn children(
+        &self,
+        facts: &Facts,
+        parent: RecordId,
+        part: &Fpage,
+    ) -> Result<Option<Vec<Record>>, AllocError>
+        requires { KeepsUp self.now (state_of_facts facts.now) }
+        ensures absent { self.now.absent ≡ true → result ≡ Ok None }
+        ensures there { self.now.absent ≡ false → IfOk result (λ found. IsSome found) }
+        ensures children { IfOk result (λ found. IfSome found (λ list. list.items
+            ≡ children_of (records_of_facts facts.now) parent part.now)) }
+        ensures formed { IfOk result (λ found. IfSome found (λ list. All IsFormedRecord list.items)) }
+    {
+        if self.absent {
+            return Ok(None);
+        }
+        let found = all_sharing(self.alloc, &self.listed, facts, Owner::Record(parent), part)?;
+        Ok(Some(found))
+    }
+}

@@ -1,0 +1,169 @@
+//! Cached rights beside facts.
+
+use super::building::settle_all;
+use super::changes::{Change, Spot, cached_at, seen_at};
+use super::following::{follow_cut, follow_end, follow_record};
+use super::places::Listed;
+use super::runs::{RightsRun, runs_of};
+use mapdb_facts::{Facts, Op, RecordId};
+use mapdb_fpage::Rights;
+use std::alloc::{AllocError, Global};
+use std::collections::{BTreeMap, BTreeSet};
+
+/// The rights of records at pages, kept beside the facts that they follow from. Want of memory makes it absent.
+#[derive(Drop)]
+pub struct RightsIndex {
+    pub(crate) changes: BTreeMap<Spot, Change>,
+    pub(crate) listed: BTreeSet<Listed>,
+    pub(crate) absent: bool,
+    pub(crate) alloc: Global,
+}
+
+impl RightsIndex {
+    ghost use Rattle.std.specs.Prelude.{
+      ◌≡◌,
+      ◌⊎◌,
+      Ok,
+      None,
+      Some,
+      IfOk,
+      IfSome,
+      IsSome,
+      OnErr,
+      OnOk,
+      true,
+      false,
+    };
+    ghost use Rattle.mapdb_facts.specs.Facts.{state_of_facts};
+    ghost use Rattle.mapdb_facts.specs.State.{State, nothing};
+    ghost use Rattle.mapdb_facts.specs.WellFormed.{is_formed};
+    ghost use Rattle.mapdb_rights.specs.PageRights.{pair_at};
+    ghost use Rattle.mapdb_rights.specs.Right.{rights_at};
+    ghost use Rattle.mapdb_rights.specs.RightsRuns.{rights_runs};
+    ghost use Rattle.mapdb_rights.specs.Index.{StandsFor, StoodBefore};
+
+    /// The index of no facts. It takes no memory.
+    pub fn new(alloc: Global) -> RightsIndex
+        ensures { StandsFor result nothing }
+    {
+        RightsIndex {
+            changes: BTreeMap::new(alloc),
+            listed: BTreeSet::new(alloc),
+            absent: false,
+            alloc,
+        }
+    }
+
+    /// The index of facts. An error where memory was wanted.
+    pub fn build(alloc: Global, facts: &Facts) -> Result<RightsIndex, AllocError>
+        ensures { IfOk result (λ index. StandsFor index (state_of_facts facts.now)) }
+    {
+        let mut changes = BTreeMap::new(alloc);
+        let mut listed = BTreeSet::new(alloc);
+        settle_all(&mut changes, &mut listed, alloc, facts)?;
+        Ok(RightsIndex {
+            changes,
+            listed,
+            absent: false,
+            alloc,
+        })
+    }
+
+    /// Whether memory was wanted, and nothing is kept.
+    pub fn is_absent(&self) -> bool
+        ensures { result ≡ self.now.absent }
+    {
+        self.absent
+    }
+
+    /// Follows an operation.
+    fn follow(&mut self, facts: &Facts, op: &Op) -> Result<(), AllocError>
+        requires formed { is_formed op.now ≡ true }
+        requires stood { StoodBefore self.old op.now (state_of_facts facts.now) }
+        ensures { OnOk result (StandsFor self.new (state_of_facts facts.now)) }
+    {
+        match op {
+            Op::Born(mapping) => follow_record(
+                &mut self.changes,
+                &mut self.listed,
+                self.alloc,
+                facts,
+                mapping,
+            ),
+            Op::Cut(cut) => follow_cut(&mut self.changes, &self.listed, self.alloc, facts, cut),
+            Op::Closed(space) => follow_end(
+                &mut self.changes,
+                &self.listed,
+                self.alloc,
+                facts,
+                *space,
+            ),
+        }
+    }
+
+    /// Follows an operation that the facts have by now: they say what they said before, and this. An error where memory was
+    /// wanted: the index is absent then, and keeps nothing. An absent index stays as it is, without an error.
+    pub fn added(&mut self, facts: &Facts, op: &Op) -> Result<(), AllocError>
+        requires formed { is_formed op.now ≡ true }
+        requires stood { (self.old.absent ≡ true) ⊎ StoodBefore self.old op.now (state_of_facts facts.now) }
+        ensures ok { OnOk result (self.old.absent ≡ false → StandsFor self.new (state_of_facts facts.now)) }
+        ensures memory { OnErr result (self.new.absent ≡ true) }
+        ensures absent { self.old.absent ≡ true → (result ≡ Ok tt) × (self.new ≡ self.old) }
+    {
+        if self.absent {
+            return Ok(());
+        }
+        match self.follow(facts, op) {
+            Ok(()) => Ok(()),
+            Err(fault) => {
+                self.changes = BTreeMap::new(self.alloc);
+                self.listed = BTreeSet::new(self.alloc);
+                self.absent = true;
+                Err(fault)
+            }
+        }
+    }
+
+    /// The rights of a record at a page, none for a name that is not held. None where the index is absent.
+    pub fn right_at(&self, id: RecordId, page: u64) -> Option<Rights>
+        ensures absent { self.now.absent ≡ true → result ≡ None }
+        ensures rights { (S : State) → StandsFor self.now S → result ≡ Some (rights_at S id page) }
+    {
+        if self.absent {
+            None
+        } else {
+            Some(cached_at(&self.changes, id, page))
+        }
+    }
+
+    /// What a record has at a page, its frame and its rights: no pair where it has no right there, or is not held. None
+    /// where the index is absent.
+    pub fn pair_at(&self, id: RecordId, page: u64) -> Option<Option<(u64, Rights)>>
+        ensures absent { self.now.absent ≡ true → result ≡ None }
+        ensures pair { (S : State) → StandsFor self.now S → result ≡ Some (pair_at S id page) }
+    {
+        if self.absent {
+            return None;
+        }
+        let change = seen_at(&self.changes, id, page);
+        if change.rights.is_none() {
+            return Some(None);
+        }
+        Some(Some((change.frame(page), change.rights)))
+    }
+
+    /// The maximal runs of pages over which a record has equal rights, and not none, in ascending order. None where the index
+    /// is absent. An error where memory was wanted for the list.
+    pub fn runs(&self, id: RecordId) -> Result<Option<Vec<RightsRun>>, AllocError>
+        ensures absent { self.now.absent ≡ true → result ≡ Ok None }
+        ensures there { self.now.absent ≡ false → IfOk result (λ runs. IsSome runs) }
+        ensures runs { (S : State) → StandsFor self.now S
+            → IfOk result (λ runs. IfSome runs (λ list. list.items ≡ rights_runs S id)) }
+    {
+        if self.absent {
+            return Ok(None);
+        }
+        let runs = runs_of(&self.changes, self.alloc, id)?;
+        Ok(Some(runs))
+    }
+}
