@@ -7,9 +7,9 @@ use Rattle.mapdb_exchange.specs.declared.faults.RunFault.TheVariants.{BadCount}
 use Rattle.mapdb_exchange.specs.declared.reports.Part.{Part}
 use Rattle.mapdb_lines.specs.declared.fault.ScriptFault.{ScriptFault}
 use Rattle.mapdb_lines.specs.declared.fault.ScriptFault.TheVariants.{Line}
+use Rattle.mapdb_lines.proofs.BlockLemmas.{appends-none}
 use Rattle.mapdb_script.specs.Run.{IsOver}
 use Rattle.mapdb_script.specs.Threading.{TellsScripts}
-use Rattle.mapdb_script.proofs.RunLemmas.{Appends-none}
 use Rattle.l4map.specs.Threaded.{IsWritten, report_text}
 use Rattle.l4map.proofs.ReportLemmas.{fault_told, report_told}
 use Rattle.l4map.proofs.threaded.run_threads.Goals as goal
@@ -48,4 +48,4 @@ returns-in-Err-run-clause-told g c =
     let read = c.in-Ok.ensures.told in
     let why = c.in-Err-run.why in
     let exactly = subst (λ (n : ℕ). why ≡ BadCount ↔ (IsCount n c.args.capacity → ⊥)) (sym (length-map _ _)) c.in-Err-run.ensures.bad in
-    (read.0, [], read.1, Appends-none _, (read.2.1, (_, read.2.0, exactly), refl))
+    (read.0, [], read.1, appends-none _, (read.2.1, (_, read.2.0, exactly), refl))

@@ -1,0 +1,16 @@
+-- What is ahead was asked of a reader at once.
+use Rattle.std.proofs.Common.{◌≡◌, ◌≤◌, ℕ, List, length, arith, ap, sym, ◌∙◌}
+use Rattle.std.proofs.lemmas.List.{length-append}
+use Rattle.mapdb_lines.specs.Limits.{read_ahead}
+use Rattle.mapdb_lines.specs.Lines.{before, beyond}
+use Rattle.mapdb_lines.specs.Reading.{ahead_of}
+use Rattle.mapdb_lines.specs.declared.reading.Reading.{Reading}
+use Rattle.mapdb_lines.proofs.LineLemmas.{before-beyond, length_range}
+
+pub few_ahead : (r : Reading) → length (ahead_of r) ≤ read_ahead
+few_ahead r = let size = length_range r.piece.items r.start r.end (omega (arith, r.within, r.room, r.piece.ok.0)) in omega (arith, r.within, r.room)
+
+pub few_beyond : (bytes : List ℕ) → length bytes ≤ read_ahead → length (beyond 10 bytes) ≤ read_ahead
+few_beyond bytes few =
+    let both = sym (ap length (before-beyond 10 bytes)) ∙ length-append (before 10 bytes) (beyond 10 bytes) in
+    omega arith

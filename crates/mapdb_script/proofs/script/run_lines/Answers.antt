@@ -1,0 +1,118 @@
+use Rattle.std.proofs.Common.{◌++◌, ◌∙◌, [], refl, ap, ℕ, List, arith, inl, inr}
+use Rattle.std.proofs.lemmas.Result.{err_from_is_err_and}
+use Rattle.mapdb_script.specs.States.{state_of}
+use Rattle.mapdb_lines.specs.Reading.{ahead_of, line_of}
+use Rattle.mapdb_lines.specs.Blocks.{waiting}
+use Rattle.mapdb_lines.proofs.BlockLemmas.{passes-none, passes-on, passes-then}
+use Rattle.mapdb_script.proofs.RunLemmas.{begins, tells_unread, tells_unwritten, tells_nothing, tells_stopped, tells_last, next_line, turn_lines, turn_few, falls_by_line, Consumes-grow, Consumes-same, Consumes-none, still_works}
+use Rattle.mapdb_script.proofs.script.run_lines.Goals as goal
+
+pub loop-engine-init : goal.loop-engine-init
+loop-engine-init g c = record {
+  few = omega (arith, ap (λ s. s.counts.lines) c.new-engine.ensures);
+  so_far = ([], [], Consumes-none _ _ c.in_ok-reading.ensures, passes-none _ _ _ refl, rw c.new-engine.ensures begins);
+  reads = c.requires.reader_works;
+  writes = c.requires.writer_works;
+}
+
+pub returns-in_err-progress-clause-told : goal.returns-in_err-progress-clause-told
+returns-in_err-progress-clause-told g c =
+    let p = err_from_is_err_and c.from_residual-in_err-progress.result c.from_residual-in_err-progress.ensures.1 in
+    let so_far = c.loop-engine.invariant.so_far in
+    let passed = passes-on (g.W.Sink.written c.args.writer.now) (g.W.Sink.written c.loop-engine.writer) (g.W.Sink.written c.flush_before_read.new.writer) (waiting c.args.block.now) (waiting c.loop-engine.block) (waiting c.flush_before_read.new.block) so_far.1 so_far.3 c.in_ok-flush_before_read.ensures.told in
+    let read = c.advance.ensures.bytes in
+    let bytes : List ℕ = ahead_of c.loop-engine.reading ++ read.0 in (
+      so_far.0 ++ bytes,
+      so_far.1,
+      Consumes-grow _ _ _ so_far.0 (ahead_of c.loop-engine.reading) read.0 so_far.2 read.1,
+      passed,
+      rw (p.1, p.2) (tells_unread c.in_err-progress.field-0.0 so_far.0 so_far.1 bytes (state_of c.loop-engine.engine) _ so_far.4),
+    )
+
+pub returns-in-Nothing-clause-told : goal.returns-in-Nothing-clause-told
+returns-in-Nothing-clause-told g c =
+    let so_far = c.loop-engine.invariant.so_far in
+    let passed = passes-on (g.W.Sink.written c.args.writer.now) (g.W.Sink.written c.loop-engine.writer) (g.W.Sink.written c.flush_before_read.new.writer) (waiting c.args.block.now) (waiting c.loop-engine.block) (waiting c.flush_before_read.new.block) so_far.1 so_far.3 c.in_ok-flush_before_read.ensures.told in
+    let read = c.in_ok-progress.ensures.bytes in
+    let bytes : List ℕ = ahead_of c.loop-engine.reading ++ read.0 in
+    let reads = rw c.in-Nothing.is at read.2.0 in (
+      so_far.0 ++ bytes,
+      so_far.1,
+      Consumes-grow _ _ _ so_far.0 (ahead_of c.loop-engine.reading) read.0 so_far.2 read.1,
+      passed,
+      rw c.summary.ensures (tells_nothing so_far.0 so_far.1 bytes (state_of c.loop-engine.engine) _ so_far.4 reads.0 (c.in_ok-progress.ensures.ended (inr c.in-Nothing.is), c.in_ok-progress.ensures.over (inr c.in-Nothing.is))),
+    )
+
+pub returns-in_err-respond-clause-told : goal.returns-in_err-respond-clause-told
+returns-in_err-respond-clause-told g c =
+    let p = err_from_is_err_and c.from_residual-in_err-respond.result c.from_residual-in_err-respond.ensures.1 in
+    let so_far = c.loop-engine.invariant.so_far in
+    let passed = passes-on (g.W.Sink.written c.args.writer.now) (g.W.Sink.written c.loop-engine.writer) (g.W.Sink.written c.flush_before_read.new.writer) (waiting c.args.block.now) (waiting c.loop-engine.block) (waiting c.flush_before_read.new.block) so_far.1 so_far.3 c.in_ok-flush_before_read.ensures.told in
+    let read = c.in_ok-progress.ensures.bytes in
+    let bytes : List ℕ = ahead_of c.loop-engine.reading ++ read.0 in
+    let told = rw c.line.ensures at c.in_err-respond.ensures.told in (
+      so_far.0 ++ bytes,
+      so_far.1 ++ told.0,
+      Consumes-grow _ _ _ so_far.0 (ahead_of c.loop-engine.reading) read.0 so_far.2 read.1,
+      passes-then (g.W.Sink.written c.args.writer.now) (g.W.Sink.written c.flush_before_read.new.writer) (g.W.Sink.written c.respond.new.writer) (waiting c.args.block.now) (waiting c.flush_before_read.new.block) (waiting c.respond.new.block) so_far.1 told.0 passed told.1,
+      rw (p.1, p.2) (tells_stopped (Unit {0}) c.in_err-respond.field-0.0 so_far.0 so_far.1 bytes (line_of c.advance.new.self) (ahead_of c.advance.new.self) told.0 c.in_ok-progress.progress (state_of c.loop-engine.engine) (state_of c.respond.new.engine) _
+          so_far.4 read.2.0 read.2.1 c.in_default.not-Nothing (λ e. (c.in_ok-progress.ensures.ended (inl e), c.in_ok-progress.ensures.over (inl e))) told.2),
+    )
+
+pub returns-in-Last-clause-told : goal.returns-in-Last-clause-told
+returns-in-Last-clause-told g c =
+    let so_far = c.loop-engine.invariant.so_far in
+    let passed = passes-on (g.W.Sink.written c.args.writer.now) (g.W.Sink.written c.loop-engine.writer) (g.W.Sink.written c.flush_before_read.new.writer) (waiting c.args.block.now) (waiting c.loop-engine.block) (waiting c.flush_before_read.new.block) so_far.1 so_far.3 c.in_ok-flush_before_read.ensures.told in
+    let read = c.in_ok-progress.ensures.bytes in
+    let bytes : List ℕ = ahead_of c.loop-engine.reading ++ read.0 in
+    let reads = rw c.in-Last.is at read.2.0 in
+    let told = rw c.line.ensures at c.in_ok-respond.ensures.told in (
+      so_far.0 ++ bytes,
+      so_far.1 ++ told.0,
+      Consumes-grow _ _ _ so_far.0 (ahead_of c.loop-engine.reading) read.0 so_far.2 read.1,
+      passes-then (g.W.Sink.written c.args.writer.now) (g.W.Sink.written c.flush_before_read.new.writer) (g.W.Sink.written c.respond.new.writer) (waiting c.args.block.now) (waiting c.flush_before_read.new.block) (waiting c.respond.new.block) so_far.1 told.0 passed told.1,
+      rw c.summary-in-Last.ensures (tells_last so_far.0 so_far.1 bytes (line_of c.advance.new.self) (ahead_of c.advance.new.self) told.0 (state_of c.loop-engine.engine) (state_of c.respond.new.engine) _
+          so_far.4 reads (c.in_ok-progress.ensures.ended (inl c.in-Last.is), c.in_ok-progress.ensures.over (inl c.in-Last.is)) told.2),
+    )
+
+pub loop-engine-smaller : goal.loop-engine-smaller
+loop-engine-smaller g c =
+    let told = c.in_ok-respond.ensures.told in
+    let old = state_of c.loop-engine.engine in
+    let new = state_of c.respond.new.engine in
+    falls_by_line old.counts.lines new.counts.lines (turn_lines old new _ told.0 told.2) (turn_few old new _ told.0 told.2)
+
+pub loop-engine-preserved : goal.loop-engine-preserved
+loop-engine-preserved g c =
+    let so_far = c.loop-engine.invariant.so_far in
+    let passed = passes-on (g.W.Sink.written c.args.writer.now) (g.W.Sink.written c.loop-engine.writer) (g.W.Sink.written c.flush_before_read.new.writer) (waiting c.args.block.now) (waiting c.loop-engine.block) (waiting c.flush_before_read.new.block) so_far.1 so_far.3 c.in_ok-flush_before_read.ensures.told in
+    let read = c.in_ok-progress.ensures.bytes in
+    let old = state_of c.loop-engine.engine in
+    let new = state_of c.respond.new.engine in
+    let bytes : List ℕ = ahead_of c.loop-engine.reading ++ read.0 in
+    let told = rw c.line.ensures at c.in_ok-respond.ensures.told in
+    let next = next_line so_far.0 so_far.1 bytes (line_of c.advance.new.self) (ahead_of c.advance.new.self) told.0 c.in_ok-progress.progress old new so_far.4 read.2.0 c.in_default.not-Nothing c.in_default-progress.not-Last told.2 in
+    record {
+      few = omega (arith, turn_lines old new _ told.0 told.2, turn_few old new _ told.0 told.2);
+      so_far = (
+        next.0,
+        so_far.1 ++ told.0,
+        Consumes-same _ _ (so_far.0 ++ bytes) (next.0 ++ ahead_of c.advance.new.self) (Consumes-grow _ _ _ so_far.0 (ahead_of c.loop-engine.reading) read.0 so_far.2 read.1) next.1,
+        passes-then (g.W.Sink.written c.args.writer.now) (g.W.Sink.written c.flush_before_read.new.writer) (g.W.Sink.written c.respond.new.writer) (waiting c.args.block.now) (waiting c.flush_before_read.new.block) (waiting c.respond.new.block) so_far.1 told.0 passed told.1,
+        next.2,
+      );
+      reads = still_works c.in_ok-progress.progress _ _ _ c.in_ok-progress.ensures.works ∙ c.loop-engine.invariant.reads;
+      writes = still_works c.in_ok-respond.field-0 _ _ _ c.in_ok-respond.ensures.works ∙ (c.in_ok-flush_before_read.ensures.kept ∙ c.loop-engine.invariant.writes);
+    }
+
+pub returns-in_err-flush_before_read-clause-told : goal.returns-in_err-flush_before_read-clause-told
+returns-in_err-flush_before_read-clause-told g c =
+    let p = err_from_is_err_and c.from_residual-in_err-flush_before_read.result c.from_residual-in_err-flush_before_read.ensures.1 in
+    let so_far = c.loop-engine.invariant.so_far in
+    let passed = passes-on (g.W.Sink.written c.args.writer.now) (g.W.Sink.written c.loop-engine.writer) (g.W.Sink.written c.flush_before_read.new.writer) (waiting c.args.block.now) (waiting c.loop-engine.block) (waiting c.flush_before_read.new.block) so_far.1 so_far.3 c.in_err-flush_before_read.ensures.told in (
+      so_far.0 ++ ahead_of c.loop-engine.reading,
+      so_far.1,
+      so_far.2,
+      passed,
+      rw (p.1, p.2) (tells_unwritten c.in_err-flush_before_read.field-0.0 so_far.0 so_far.1 (ahead_of c.loop-engine.reading) (state_of c.loop-engine.engine) _ so_far.4 c.in_err-flush_before_read.ensures.write.0),
+    )
