@@ -1,0 +1,41 @@
+# The static library for C: the archive, the heap over malloc, the examples, the tests, and an
+# installation. The archive is proved and built by `rt`, the command of the kit that the README names.
+
+PREFIX ?= /usr/local
+CC ?= cc
+CFLAGS ?= -O2 -Wall -Wextra
+ARCHIVE = crates/mapdb_c/out/libmapdb_c.a
+SOURCES = $(shell find crates -path '*/out' -prune -o -name '*.rt' -print -o -name '*.antt' -print)
+BUILT = build
+
+all: $(ARCHIVE) $(BUILT)/smallest $(BUILT)/two_processors $(BUILT)/mapdb.pc
+
+$(ARCHIVE): crates.txt $(SOURCES)
+	cd crates/mapdb_c && rt lib
+
+$(BUILT)/mapdb_heap.o: c/mapdb_heap.c
+	mkdir -p $(BUILT)
+	$(CC) $(CFLAGS) -c -o $@ $<
+
+$(BUILT)/%: examples/c/%.c include/mapdb.h $(BUILT)/mapdb_heap.o $(ARCHIVE)
+	$(CC) $(CFLAGS) -Iinclude -pthread -o $@ $< $(BUILT)/mapdb_heap.o $(ARCHIVE)
+
+$(BUILT)/mapdb.pc: mapdb.pc.in
+	mkdir -p $(BUILT)
+	sed 's#@PREFIX@#$(PREFIX)#' $< > $@
+
+# The heap over malloc has an archive of its own, which a kernel with a heap leaves out.
+install: $(ARCHIVE) $(BUILT)/mapdb_heap.o $(BUILT)/mapdb.pc
+	install -d $(DESTDIR)$(PREFIX)/include $(DESTDIR)$(PREFIX)/lib/pkgconfig
+	install -m 644 include/mapdb.h $(DESTDIR)$(PREFIX)/include
+	install -m 644 $(ARCHIVE) $(DESTDIR)$(PREFIX)/lib
+	ar rcs $(DESTDIR)$(PREFIX)/lib/libmapdb_heap.a $(BUILT)/mapdb_heap.o
+	install -m 644 $(BUILT)/mapdb.pc $(DESTDIR)$(PREFIX)/lib/pkgconfig
+
+test: $(ARCHIVE)
+	tests/c/run.sh
+
+clean:
+	rm -rf $(BUILT)
+
+.PHONY: all install test clean

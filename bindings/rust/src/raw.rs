@@ -1,0 +1,187 @@
+//! The library's calls as `include/mapdb.h` has them, and what they are given.
+
+use core::ffi::c_void;
+
+/// A copy, or none: what the calls keep there is their own.
+#[repr(C)]
+pub struct Handle {
+    pub at: *mut c_void,
+}
+
+/// An address space.
+#[repr(C)]
+#[derive(Clone, Copy, Debug, Default, PartialEq, Eq, PartialOrd, Ord, Hash)]
+pub struct Space {
+    /// Its number, below 2^16. 0 is that of the first space.
+    pub number: u32,
+    /// Its version, from 0 on.
+    pub version: u32,
+}
+
+/// An fpage with rights. The order 0 is that of nil, whatever the address.
+#[repr(C)]
+#[derive(Clone, Copy, Debug, Default, PartialEq, Eq)]
+pub struct Fpage {
+    /// The byte address of the place, a multiple of its size.
+    pub address: u64,
+    /// The place has 2^order bytes: 12 to 48, or 0 for nil.
+    pub order: u32,
+    /// The rights: 4 to read, 2 to write, 1 to execute, added up. Of a receive window they are not
+    /// looked at.
+    pub rights: u32,
+}
+
+/// An operation, which may be sent to other processors as it stands. `include/mapdb.h` says which
+/// kind uses which field.
+#[repr(C)]
+#[derive(Clone, Copy, Debug, Default, PartialEq, Eq)]
+pub struct Operation {
+    /// 1 a record, 2 a revocation, 3 the end of a space.
+    pub kind: u32,
+    /// The rights of a record, or those that are taken.
+    pub rights: u32,
+    /// The number of the record, or of the one that loses rights.
+    pub number: u64,
+    /// The number of a record's parent.
+    pub parent_number: u64,
+    /// The byte address of the place, or of the part that loses rights.
+    pub address: u64,
+    /// The first page of a record's source.
+    pub source: u64,
+    /// The space of a record, or the one that has ended.
+    pub space: Space,
+    /// The processor of the record, or of the one that loses rights.
+    pub processor: u32,
+    /// The processor of a record's parent.
+    pub parent_processor: u32,
+    /// The order of the place or part.
+    pub order: u32,
+    /// Nothing.
+    pub reserved: u32,
+}
+
+/// A frame with rights.
+#[repr(C)]
+#[derive(Clone, Copy, Debug, Default, PartialEq, Eq)]
+pub struct Found {
+    /// The frame, by its number.
+    pub frame: u64,
+    /// The rights.
+    pub rights: u32,
+    /// Nothing.
+    pub reserved: u32,
+}
+
+/// Pages of a space, one behind the other, that are served from frames that rise by one, with equal
+/// rights.
+#[repr(C)]
+#[derive(Clone, Copy, Debug, Default, PartialEq, Eq)]
+pub struct Row {
+    /// The space.
+    pub space: Space,
+    /// The first of the pages.
+    pub page: u64,
+    /// How many pages there are.
+    pub count: u64,
+    /// The frame that the first page is served from.
+    pub frame: u64,
+    /// The rights.
+    pub rights: u32,
+    /// Nothing.
+    pub reserved: u32,
+}
+
+#[repr(C)]
+#[derive(Default)]
+pub struct Issued {
+    pub first: u64,
+    pub count: u64,
+    pub space: Space,
+}
+
+#[repr(C)]
+#[derive(Default)]
+pub struct Taken {
+    pub count: u64,
+    pub place: u64,
+    pub number: u64,
+    pub processor: u32,
+    pub reserved: u32,
+}
+
+unsafe extern "C" {
+    pub fn mapdb_create(copy: *mut Handle, processor: u32) -> u32;
+    pub fn mapdb_destroy(copy: *mut Handle);
+    pub fn mapdb_map(
+        copy: *mut Handle,
+        sender: Space,
+        send_base: u64,
+        page: *const Fpage,
+        receiver: Space,
+        window: *const Fpage,
+        issued: *mut Issued,
+    ) -> u32;
+    pub fn mapdb_map_words(
+        copy: *mut Handle,
+        sender: Space,
+        first: u64,
+        second: u64,
+        receiver: Space,
+        window: u64,
+        issued: *mut Issued,
+    ) -> u32;
+    pub fn mapdb_unmap(
+        copy: *mut Handle,
+        space: Space,
+        page: *const Fpage,
+        flush: u32,
+        issued: *mut Issued,
+    ) -> u32;
+    pub fn mapdb_unmap_word(
+        copy: *mut Handle,
+        space: Space,
+        word: u64,
+        flush: u32,
+        issued: *mut Issued,
+    ) -> u32;
+    pub fn mapdb_end(copy: *mut Handle, space: Space, issued: *mut Issued) -> u32;
+    pub fn mapdb_take(
+        copy: *mut Handle,
+        operations: *const Operation,
+        length: usize,
+        taken: *mut Taken,
+    ) -> u32;
+    pub fn mapdb_give(
+        copy: *mut Handle,
+        first: u32,
+        end: u32,
+        room: *mut Operation,
+        length: usize,
+        count: *mut u64,
+    ) -> u32;
+    pub fn mapdb_give_own(
+        copy: *mut Handle,
+        first: u32,
+        end: u32,
+        room: *mut Operation,
+        length: usize,
+        count: *mut u64,
+    ) -> u32;
+    pub fn mapdb_counts(copy: *mut Handle, held: *mut u32, own: *mut u32) -> u32;
+    pub fn mapdb_served(copy: *mut Handle, space: Space, page: u64, found: *mut Found) -> u32;
+    pub fn mapdb_rights(
+        copy: *mut Handle,
+        space: Space,
+        page: u64,
+        room: *mut Found,
+        length: usize,
+        count: *mut u64,
+    ) -> u32;
+    pub fn mapdb_run_end(copy: *mut Handle, space: Space, page: u64, end: *mut u64) -> u32;
+    pub fn mapdb_covers(copy: *mut Handle, other: *mut Handle, answer: *mut bool) -> u32;
+    pub fn mapdb_same(copy: *mut Handle, other: *mut Handle, answer: *mut bool) -> u32;
+    pub fn mapdb_free_version(copy: *mut Handle, number: u32, version: *mut u32) -> u32;
+    pub fn mapdb_table(copy: *mut Handle, room: *mut Row, length: usize, count: *mut u64) -> u32;
+    pub fn mapdb_snapshot(copy: *mut Handle, room: *mut u8, length: usize, count: *mut u64) -> u32;
+    pub fn mapdb_load(copy: *mut Handle, text: *const u8, length: usize, taken: *mut Taken) -> u32;
+}

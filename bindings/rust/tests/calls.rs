@@ -1,0 +1,121 @@
+//! The safe functions over the archive, with a heap over malloc.
+
+mod heap;
+
+use mapdb::{
+    Fpage, IssueError, Operation, Records, Replica, RoomError, Row, Space, Status, TakeError,
+};
+
+const ROOT: Space = Space {
+    number: 0,
+    version: 0,
+};
+const ONE: Space = Space {
+    number: 1,
+    version: 0,
+};
+
+fn mapped() -> Replica {
+    let mut replica = Replica::new(0).unwrap();
+    let page = Fpage {
+        address: 0x10000,
+        order: 14,
+        rights: 6,
+    };
+    let window = Fpage {
+        address: 0x40000,
+        order: 16,
+        rights: 0,
+    };
+    let records = replica.map(ROOT, 0x8000, &page, ONE, &window);
+    assert_eq!(records, Ok(Records { first: 1, count: 1 }));
+    replica
+}
+
+#[test]
+fn maps_and_serves() {
+    let mut replica = mapped();
+    let found = replica.served(ONE, 0x4b).unwrap().unwrap();
+    assert_eq!((found.frame, found.rights), (0x13, 6));
+    assert_eq!(replica.served(ONE, 0x4c), Ok(None));
+    assert_eq!(replica.unmap_word(ROOT, 0x100c2, false), Ok(1));
+    assert_eq!(replica.served(ONE, 0x48).unwrap().unwrap().rights, 4);
+    assert_eq!(replica.counts(), (2, 2));
+}
+
+#[test]
+fn carries_operations() {
+    let mut replica = mapped();
+    let mut other = Replica::new(1).unwrap();
+    let mut room = [Operation::default(); 2];
+    assert_eq!(
+        replica.give(0, 1, &mut []),
+        Err(RoomError::NoRoom { needed: 1 })
+    );
+    assert_eq!(replica.give_own(0, 1, &mut room), Ok(1));
+    assert!(replica.covers(&mut other) && !other.covers(&mut replica));
+    assert_eq!(other.take(&room[..1]), Ok(1));
+    assert!(replica.same(&mut other));
+    room[0].space.number = 2;
+    assert_eq!(
+        other.take(&room[..1]),
+        Err(TakeError::Clash {
+            number: 1,
+            processor: 0
+        })
+    );
+    room[0].kind = 9;
+    assert_eq!(
+        other.take(&room[..1]),
+        Err(TakeError::Refused {
+            status: Status::BadKind,
+            place: 0
+        })
+    );
+    assert_eq!(other.take(&[]), Ok(0));
+}
+
+#[test]
+fn ends_spaces() {
+    let mut replica = mapped();
+    assert_eq!(replica.end(ONE), Ok(()));
+    assert_eq!(replica.end(ONE), Err(IssueError::SpaceEnded(ONE)));
+    assert_eq!(
+        replica.end(ROOT),
+        Err(IssueError::Refused(Status::RootSpace))
+    );
+    assert_eq!(replica.free_version(1), 1);
+    assert_eq!(Replica::new(64).err(), Some(Status::BadProcessor));
+}
+
+#[test]
+fn fills_page_tables() {
+    let mut replica = mapped();
+    let mut rows = [Row::default(); 2];
+    assert_eq!(
+        replica.table(&mut rows[..1]),
+        Err(RoomError::NoRoom { needed: 2 })
+    );
+    assert_eq!(replica.table(&mut rows), Ok(2));
+    assert_eq!((rows[1].space, rows[1].page, rows[1].count), (ONE, 0x48, 4));
+    assert_eq!((rows[1].frame, rows[1].rights), (0x10, 6));
+}
+
+#[test]
+fn snapshots_come_back() {
+    let mut replica = mapped();
+    let mut other = Replica::new(1).unwrap();
+    let mut text = [0; 128];
+    let length = replica.snapshot(&mut text).unwrap();
+    assert_eq!(other.load(&text[..length]), Ok(1));
+    assert!(replica.same(&mut other));
+}
+
+#[test]
+fn goes_to_another_thread() {
+    let mut replica = mapped();
+    let served = std::thread::spawn(move || replica.served(ONE, 0x48))
+        .join()
+        .unwrap();
+    assert_eq!(served.unwrap().unwrap().frame, 0x10);
+}

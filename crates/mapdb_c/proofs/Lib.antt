@@ -1,0 +1,7 @@
+pub mod ComingBack
+pub mod Fitting
+pub mod GivingTold
+pub mod LoadingTold
+pub mod TakingTold
+pub mod Telling
+mod Values

@@ -1,0 +1,14 @@
+pub mod Asking
+pub mod FaultStatuses
+pub mod Filling
+pub mod Giving
+pub mod Handles
+pub mod Issuing
+pub mod Loading
+pub mod RawCommands
+pub mod RawOperations
+pub mod RawPlaces
+pub mod RawRows
+pub mod Reading
+pub mod StatusNumbers
+pub mod Taking

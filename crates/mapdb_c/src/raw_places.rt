@@ -1,0 +1,114 @@
+//! Spaces and fpages as C has them.
+
+ghost use Rattle.std.specs.Prelude.{◌≡◌, ◌<◌};
+ghost use Rattle.mapdb_c.specs.RawPlaces.{fpage_of, optional_place, place_of, raw_space, rights_of, space_of, window_of};
+
+use crate::faults::place_status;
+use crate::statuses::Status;
+use mapdb_facts::Space;
+use mapdb_fpage::{Fpage, Rights, TOP_ORDER};
+
+/// The numbers of spaces lie below this.
+const SPACE_LIMIT: u32 = 1 << 16;
+
+/// Values of rights lie below this.
+const RIGHTS_LIMIT: u32 = 1 << 3;
+
+/// A space, 8 bytes.
+#[repr(C)]
+#[derive(Clone, Copy)]
+pub struct RawSpace {
+    /// Its number, below `2^16`.
+    pub number: u32,
+    /// Its version.
+    pub version: u32,
+}
+
+/// An fpage with rights, 16 bytes.
+#[repr(C)]
+#[derive(Clone, Copy)]
+pub struct RawFpage {
+    /// The byte address of the place.
+    pub address: u64,
+    /// The order of the place, which has `2^order` bytes: 0 for nil, whatever the address.
+    pub order: u32,
+    /// The rights: 4 to read, 2 to write, 1 to execute, added up.
+    pub rights: u32,
+}
+
+/// The space, unless its number is too great.
+pub fn space_of(raw: RawSpace) -> Result<Space, Status>
+    ensures { result ≡ space_of raw }
+{
+    if raw.number >= SPACE_LIMIT {
+        return Err(Status::BadSpace);
+    }
+    Ok(Space {
+        number: raw.number as u16,
+        version: raw.version,
+    })
+}
+
+/// The space as C has it.
+pub fn raw_space(space: Space) -> RawSpace
+    ensures raw { result ≡ raw_space space }
+    ensures limit { space.number < SPACE_LIMIT }
+{
+    RawSpace {
+        number: space.number as u32,
+        version: space.version,
+    }
+}
+
+/// The rights of a value, unless it is too great.
+pub fn rights_of(value: u32) -> Result<Rights, Status>
+    ensures { result ≡ rights_of value }
+{
+    if value >= RIGHTS_LIMIT {
+        return Err(Status::BadRights);
+    }
+    match Rights::from_bits(value as u8) {
+        Some(rights) => Ok(rights),
+        None => Err(Status::BadRights),
+    }
+}
+
+/// The place of `2^order` bytes from the address on, or why there is none.
+pub fn place_of(address: u64, order: u32) -> Result<Fpage, Status>
+    ensures { result ≡ place_of address order }
+{
+    if order > TOP_ORDER as u32 {
+        return Err(Status::TooLarge);
+    }
+    match Fpage::new(address, order as u8) {
+        Ok(place) => Ok(place),
+        Err(fault) => Err(place_status(fault)),
+    }
+}
+
+/// The place, or none where the order is that of nil.
+fn optional_place(address: u64, order: u32) -> Result<Option<Fpage>, Status>
+    ensures { result ≡ optional_place address order }
+{
+    if order == 0 {
+        return Ok(None);
+    }
+    let place = place_of(address, order)?;
+    Ok(Some(place))
+}
+
+/// The receive window, whose rights are not looked at: none for nil.
+pub fn window_of(raw: &RawFpage) -> Result<Option<Fpage>, Status>
+    ensures { result ≡ window_of raw.now }
+{
+    optional_place(raw.address, raw.order)
+}
+
+/// The fpage with its rights: no place for nil. A place that is none is told before rights that are none.
+pub fn fpage_of(raw: &RawFpage) -> Result<(Option<Fpage>, Rights), Status>
+    ensures { result ≡ fpage_of raw.now }
+{
+    let place = optional_place(raw.address, raw.order)?;
+    let rights = rights_of(raw.rights)?;
+    Ok((place, rights))
+}

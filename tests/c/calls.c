@@ -1,0 +1,660 @@
+/*
+ * Each call once as it should go, and at each status; then with each request for memory refused in
+ * turn.
+ */
+#include "counting_heap.h"
+#include "mapdb.h"
+#include <stdio.h>
+#include <string.h>
+
+static int passed, failed;
+
+static void check(int line, const char *what, unsigned long long is, unsigned long long wanted)
+{
+    if (is == wanted) {
+        passed++;
+        return;
+    }
+    failed++;
+    printf("line %d: %s is %llu, not %llu\n", line, what, is, wanted);
+}
+
+#define CHECK(what, wanted)                                                                        \
+    check(__LINE__, #what, (unsigned long long)(what), (unsigned long long)(wanted))
+
+static const mapdb_space root = {0, 0}, one = {1, 0}, two = {2, 0}, far_space = {65536, 0};
+
+/* 10000/14:rw- into space 1, at 8000 of the window 40000/16, by value and by words. */
+static const mapdb_fpage page = {0x10000, 14, MAPDB_READ | MAPDB_WRITE}, window = {0x40000, 16, 99};
+static const uint64_t first_word = 0x8008, second_word = 0x100e6, window_word = 0x40100;
+
+static mapdb_fpage fpage(uint64_t address, uint32_t order, uint32_t rights)
+{
+    mapdb_fpage made = {0, 0, 0};
+
+    made.address = address;
+    made.order = order;
+    made.rights = rights;
+    return made;
+}
+
+static mapdb_copy created(uint32_t processor)
+{
+    mapdb_copy copy = MAPDB_EMPTY;
+
+    CHECK(mapdb_create(&copy, processor), MAPDB_DONE);
+    return copy;
+}
+
+static uint32_t map(mapdb_copy *copy, mapdb_space sender, mapdb_fpage given, mapdb_space receiver,
+                    mapdb_issued *issued)
+{
+    return mapdb_map(copy, sender, 0x8000, &given, receiver, &window, issued);
+}
+
+static void no_copy(void)
+{
+    mapdb_copy none = MAPDB_EMPTY, some = created(0);
+    mapdb_issued issued;
+    mapdb_found found;
+    mapdb_taken taken;
+    mapdb_operation operation = {0, 0, 0, 0, 0, 0, {0, 0}, 0, 0, 0, 0};
+    mapdb_row row;
+    uint8_t text[1];
+    uint64_t count = 77;
+    uint32_t held = 77, own = 77, version = 77;
+    bool answer = true;
+
+    CHECK(mapdb_map(&none, root, 0, &page, one, &window, &issued), MAPDB_NO_COPY);
+    CHECK(mapdb_map_words(&none, root, first_word, second_word, one, window_word, &issued),
+          MAPDB_NO_COPY);
+    CHECK(mapdb_unmap(&none, root, &page, 0, &issued), MAPDB_NO_COPY);
+    CHECK(mapdb_unmap_word(&none, root, second_word, 0, &issued), MAPDB_NO_COPY);
+    CHECK(mapdb_end(&none, one, &issued), MAPDB_NO_COPY);
+    CHECK(mapdb_take(&none, &operation, 0, &taken), MAPDB_NO_COPY);
+    CHECK(mapdb_give(&none, 0, 0, &operation, 0, &count), MAPDB_NO_COPY);
+    CHECK(mapdb_give_own(&none, 0, 0, &operation, 0, &count), MAPDB_NO_COPY);
+    CHECK(mapdb_counts(&none, &held, &own), MAPDB_NO_COPY);
+    CHECK(mapdb_served(&none, root, 0, &found), MAPDB_NO_COPY);
+    CHECK(mapdb_run_end(&none, root, 0, &count), MAPDB_NO_COPY);
+    CHECK(mapdb_rights(&none, root, 0, &found, 1, &count), MAPDB_NO_COPY);
+    CHECK(mapdb_covers(&none, &some, &answer), MAPDB_NO_COPY);
+    CHECK(mapdb_covers(&some, &none, &answer), MAPDB_NO_COPY);
+    CHECK(mapdb_same(&none, &some, &answer), MAPDB_NO_COPY);
+    CHECK(mapdb_same(&some, &none, &answer), MAPDB_NO_COPY);
+    CHECK(mapdb_free_version(&none, 1, &version), MAPDB_NO_COPY);
+    CHECK(mapdb_table(&none, &row, 1, &count), MAPDB_NO_COPY);
+    CHECK(mapdb_snapshot(&none, text, 1, &count), MAPDB_NO_COPY);
+    CHECK(mapdb_load(&none, text, 0, &taken), MAPDB_NO_COPY);
+    CHECK(count == 77 && held == 77 && own == 77 && version == 77 && answer, 1);
+    CHECK(none.at == NULL && some.at != NULL, 1);
+    mapdb_destroy(&none);
+    mapdb_destroy(&some);
+    mapdb_destroy(&some);
+    CHECK(some.at == NULL, 1);
+}
+
+static void making(void)
+{
+    mapdb_copy copy = created(63);
+    void *at = copy.at;
+    mapdb_issued issued;
+    uint32_t held, own;
+
+    CHECK(mapdb_create(&copy, 64), MAPDB_BAD_PROCESSOR);
+    CHECK(mapdb_create(&copy, 0xffffffff), MAPDB_BAD_PROCESSOR);
+    CHECK(copy.at == at, 1);
+    CHECK(map(&copy, root, page, one, &issued), MAPDB_DONE);
+    CHECK(mapdb_create(&copy, 5), MAPDB_DONE);
+    CHECK(mapdb_counts(&copy, &held, &own), MAPDB_DONE);
+    CHECK(held + own, 0);
+    mapdb_destroy(&copy);
+}
+
+static void mapping(void)
+{
+    mapdb_copy copy = created(3);
+    mapdb_issued issued;
+    mapdb_fpage bad = fpage(0x11000, 14, 6);
+
+    CHECK(map(&copy, root, page, one, &issued), MAPDB_DONE);
+    CHECK(issued.first == 1 && issued.count == 1, 1);
+    CHECK(mapdb_map_words(&copy, root, first_word | 1, second_word, two, window_word, &issued),
+          MAPDB_DONE);
+    CHECK(issued.first == 2 && issued.count == 1, 1);
+    CHECK(map(&copy, one, fpage(0, 0, 7), two, &issued), MAPDB_DONE);
+    CHECK(issued.first == 0 && issued.count == 0, 1);
+    CHECK(map(&copy, far_space, bad, one, &issued), MAPDB_BAD_SPACE);
+    CHECK(map(&copy, root, page, far_space, &issued), MAPDB_BAD_SPACE);
+    CHECK(map(&copy, root, bad, far_space, &issued), MAPDB_UNALIGNED);
+    CHECK(map(&copy, root, fpage(0x10000, 11, 8), one, &issued), MAPDB_TOO_SMALL);
+    CHECK(map(&copy, root, fpage(0x10000, 49, 6), one, &issued), MAPDB_TOO_LARGE);
+    CHECK(map(&copy, root, fpage(0x10000, 256 + 14, 6), one, &issued), MAPDB_TOO_LARGE);
+    CHECK(map(&copy, root, fpage(1ULL << 48, 14, 6), one, &issued), MAPDB_OUT_OF_SPACE);
+    CHECK(map(&copy, root, fpage(0x10000, 14, 8), one, &issued), MAPDB_BAD_RIGHTS);
+    CHECK(map(&copy, root, fpage(0x10000, 14, 256 + 6), one, &issued), MAPDB_BAD_RIGHTS);
+    CHECK(mapdb_map(&copy, root, 0, &page, one, &bad, &issued), MAPDB_UNALIGNED);
+    CHECK(mapdb_map_words(&copy, root, first_word | 2, second_word, one, window_word, &issued),
+          MAPDB_GRANT);
+    CHECK(mapdb_map_words(&copy, root, 0x8000, second_word, one, window_word, &issued),
+          MAPDB_NOT_MAP_ITEM);
+    CHECK(mapdb_map_words(&copy, root, first_word | 0x10, second_word, one, window_word, &issued),
+          MAPDB_RESERVED_BITS);
+    CHECK(mapdb_map_words(&copy, root, first_word, second_word | 8, one, window_word, &issued),
+          MAPDB_RESERVED_BIT);
+    CHECK(mapdb_map_words(&copy, root, first_word, 0x110e6, one, window_word, &issued),
+          MAPDB_UNALIGNED);
+    CHECK(mapdb_map_words(&copy, root, first_word, second_word, one, 0x41100, &issued),
+          MAPDB_UNALIGNED);
+    CHECK(map(&copy, root, page, root, &issued), MAPDB_ROOT_SPACE);
+    CHECK(issued.first == 0 && issued.count == 0, 1);
+    mapdb_destroy(&copy);
+}
+
+static void unmapping(void)
+{
+    mapdb_copy copy = created(0);
+    mapdb_issued issued;
+    mapdb_found found;
+    mapdb_fpage first_page = fpage(0x10000, 12, MAPDB_WRITE);
+
+    CHECK(map(&copy, root, page, one, &issued), MAPDB_DONE);
+    CHECK(mapdb_unmap(&copy, root, &first_page, 0, &issued), MAPDB_DONE);
+    CHECK(issued.first == 0 && issued.count == 1, 1);
+    CHECK(mapdb_served(&copy, one, 0x48, &found), MAPDB_DONE);
+    CHECK(found.frame == 0x10 && found.rights == MAPDB_READ, 1);
+    CHECK(mapdb_unmap_word(&copy, one, 0x48000 | 12 << 4 | 4, 2, &issued), MAPDB_DONE);
+    CHECK(issued.count, 1);
+    CHECK(mapdb_served(&copy, one, 0x48, &found), MAPDB_NOT_SERVED);
+    CHECK(mapdb_served(&copy, root, 0x10, &found), MAPDB_DONE);
+    CHECK(found.frame == 0x10 && found.rights == MAPDB_ALL_RIGHTS, 1);
+    CHECK(mapdb_unmap(&copy, far_space, &first_page, 0, &issued), MAPDB_BAD_SPACE);
+    CHECK(mapdb_unmap_word(&copy, one, 0x48008, 0, &issued), MAPDB_RESERVED_BIT);
+    CHECK(mapdb_unmap_word(&copy, one, 0x48000 | 11 << 4, 0, &issued), MAPDB_TOO_SMALL);
+    mapdb_destroy(&copy);
+}
+
+static void ending(void)
+{
+    mapdb_copy copy = created(0);
+    mapdb_issued issued;
+    uint32_t version = 77;
+    mapdb_space again = {1, 1};
+
+    CHECK(mapdb_free_version(&copy, 1, &version), MAPDB_DONE);
+    CHECK(version, 0);
+    CHECK(mapdb_end(&copy, one, &issued), MAPDB_DONE);
+    CHECK(issued.first == 0 && issued.count == 1, 1);
+    CHECK(mapdb_free_version(&copy, 1, &version), MAPDB_DONE);
+    CHECK(version, 1);
+    CHECK(mapdb_free_version(&copy, 65536, &version), MAPDB_BAD_SPACE);
+    CHECK(mapdb_end(&copy, one, &issued), MAPDB_SPACE_ENDED);
+    CHECK(issued.count == 0 && issued.space.number == 1 && issued.space.version == 0, 1);
+    CHECK(map(&copy, again, page, one, &issued), MAPDB_SPACE_ENDED);
+    CHECK(issued.space.number == 1 && issued.space.version == 0, 1);
+    CHECK(mapdb_end(&copy, again, &issued), MAPDB_DONE);
+    CHECK(map(&copy, again, page, one, &issued), MAPDB_SPACE_ENDED);
+    CHECK(issued.space.number == 1 && issued.space.version == 1, 1);
+    CHECK(mapdb_end(&copy, root, &issued), MAPDB_ROOT_SPACE);
+    CHECK(mapdb_end(&copy, far_space, &issued), MAPDB_BAD_SPACE);
+    mapdb_destroy(&copy);
+}
+
+static void giving(void)
+{
+    mapdb_copy copy = created(3), other = created(4);
+    mapdb_issued issued;
+    mapdb_operation room[4];
+    mapdb_taken taken;
+    mapdb_fpage first_page = fpage(0x10000, 12, MAPDB_WRITE);
+    mapdb_space five = {5, 6};
+    uint64_t count = 0;
+    uint32_t held, own;
+
+    CHECK(map(&copy, root, page, one, &issued), MAPDB_DONE);
+    CHECK(mapdb_unmap(&copy, root, &first_page, 0, &issued), MAPDB_DONE);
+    CHECK(mapdb_end(&other, five, &issued), MAPDB_DONE);
+    CHECK(mapdb_give_own(&other, 0, 1, room, 4, &count), MAPDB_DONE);
+    CHECK(mapdb_take(&copy, room, count, &taken), MAPDB_DONE);
+    CHECK(mapdb_counts(&copy, &held, &own), MAPDB_DONE);
+    CHECK(held == 3 && own == 2, 1);
+    memset(room, 0x55, sizeof room);
+    CHECK(mapdb_give(&copy, 0, 3, room, 4, &count), MAPDB_DONE);
+    CHECK(count, 3);
+    CHECK(room[0].kind == MAPDB_RECORD && room[0].rights == 6 && room[0].number == 1 &&
+              room[0].processor == 3,
+          1);
+    CHECK(room[0].parent_number == 0 && room[0].parent_processor == 0 && room[0].reserved == 0, 1);
+    CHECK(room[0].address == 0x48000 && room[0].order == 14 && room[0].source == 0x10, 1);
+    CHECK(room[0].space.number == 1 && room[0].space.version == 0, 1);
+    CHECK(room[1].kind == MAPDB_REVOCATION && room[1].rights == 2 && room[1].number == 1 &&
+              room[1].processor == 3,
+          1);
+    CHECK(room[1].address == 0x48000 && room[1].order == 12 && room[1].source == 0 &&
+              room[1].space.number == 0,
+          1);
+    CHECK(room[2].kind == MAPDB_END && room[2].space.number == 5 && room[2].space.version == 6, 1);
+    CHECK(room[2].number == 0 && room[2].address == 0 && room[2].order == 0 && room[2].rights == 0,
+          1);
+    CHECK(room[3].kind, 0x55555555);
+    CHECK(mapdb_give_own(&copy, 1, 2, room, 1, &count), MAPDB_DONE);
+    CHECK(count == 1 && room[0].kind == MAPDB_REVOCATION, 1);
+    CHECK(mapdb_give(&copy, 0, 3, room, 2, &count), MAPDB_NO_ROOM);
+    CHECK(count == 3 && room[0].kind == MAPDB_REVOCATION, 1);
+    CHECK(mapdb_give(&copy, 0, 4, room, 4, &count), MAPDB_BAD_MARK);
+    CHECK(mapdb_give(&copy, 2, 1, room, 4, &count), MAPDB_BAD_MARK);
+    CHECK(mapdb_give_own(&copy, 0, 3, room, 4, &count), MAPDB_BAD_MARK);
+    mapdb_destroy(&copy);
+    mapdb_destroy(&other);
+}
+
+static uint32_t take_one(mapdb_copy *copy, mapdb_operation operation, uint64_t *place)
+{
+    mapdb_operation batch[2];
+    mapdb_taken taken;
+    uint32_t status;
+
+    memset(batch, 0, sizeof batch);
+    batch[0].kind = MAPDB_END;
+    batch[0].space.number = 9;
+    batch[1] = operation;
+    status = mapdb_take(copy, batch, 2, &taken);
+    *place = taken.place;
+    return status;
+}
+
+#define TAKE_BAD(field, value, wanted)                                                             \
+    do {                                                                                           \
+        mapdb_operation bad = good;                                                                \
+        bad.field = value;                                                                         \
+        CHECK(take_one(&copy, bad, &place), wanted);                                               \
+        CHECK(place, 1);                                                                           \
+    } while (0)
+
+static void taking(void)
+{
+    mapdb_copy copy = created(1), source = created(0);
+    mapdb_issued issued;
+    mapdb_operation good, other;
+    mapdb_taken taken;
+    uint64_t count, place;
+    uint32_t held, own;
+
+    CHECK(map(&source, root, page, one, &issued), MAPDB_DONE);
+    CHECK(mapdb_give(&source, 0, 1, &good, 1, &count), MAPDB_DONE);
+    TAKE_BAD(kind, 0, MAPDB_BAD_KIND);
+    TAKE_BAD(kind, 77, MAPDB_BAD_KIND);
+    TAKE_BAD(kind, 0xffffffff, MAPDB_BAD_KIND);
+    TAKE_BAD(order, 300, MAPDB_TOO_LARGE);
+    TAKE_BAD(order, 0, MAPDB_TOO_SMALL);
+    TAKE_BAD(address, 0x49000, MAPDB_UNALIGNED);
+    TAKE_BAD(address, ~0ULL, MAPDB_OUT_OF_SPACE);
+    TAKE_BAD(processor, 64, MAPDB_BAD_PROCESSOR);
+    TAKE_BAD(processor, 300, MAPDB_BAD_PROCESSOR);
+    TAKE_BAD(parent_processor, 64, MAPDB_BAD_PROCESSOR);
+    TAKE_BAD(rights, 8, MAPDB_BAD_RIGHTS);
+    TAKE_BAD(rights, 256, MAPDB_BAD_RIGHTS);
+    TAKE_BAD(space.number, 70000, MAPDB_BAD_SPACE);
+    TAKE_BAD(number, 0, MAPDB_BAD_NUMBER);
+    TAKE_BAD(number, 1ULL << 40, MAPDB_BAD_NUMBER);
+    TAKE_BAD(parent_number, 1, MAPDB_PARENT_NOT_BEFORE);
+    TAKE_BAD(source, 0x11, MAPDB_SOURCE_UNALIGNED);
+    TAKE_BAD(source, 1ULL << 36, MAPDB_PAGE_OUT_OF_SPACE);
+    TAKE_BAD(space.number, 0, MAPDB_ROOT_SPACE);
+    CHECK(mapdb_counts(&copy, &held, &own), MAPDB_DONE);
+    CHECK(held, 0);
+    CHECK(mapdb_take(&copy, &good, 1, &taken), MAPDB_DONE);
+    CHECK(taken.count, 1);
+    CHECK(mapdb_take(&copy, &good, 1, &taken), MAPDB_DONE);
+    CHECK(taken.count, 0);
+    other = good;
+    other.space.number = 2;
+    CHECK(mapdb_take(&copy, &other, 1, &taken), MAPDB_CLASH);
+    CHECK(taken.number == 1 && taken.processor == 0 && taken.count == 0, 1);
+    other.reserved = 5;
+    CHECK(mapdb_take(&copy, &good, 0, &taken), MAPDB_DONE);
+    mapdb_destroy(&copy);
+    mapdb_destroy(&source);
+}
+
+/* As many ends as a copy holds. */
+static void filling(void)
+{
+    static mapdb_operation batch[1024];
+    mapdb_copy copy = created(0);
+    mapdb_issued issued;
+    mapdb_taken taken;
+    mapdb_fpage all = fpage(0, 48, 7);
+    uint32_t round, place, held, own;
+
+    for (round = 0; round < 64; round++) {
+        memset(batch, 0, sizeof batch);
+        for (place = 0; place < 1024; place++) {
+            batch[place].kind = MAPDB_END;
+            batch[place].space.number = 1 + (round * 1024 + place) % 512;
+            batch[place].space.version = (round * 1024 + place) / 512;
+        }
+        CHECK(mapdb_take(&copy, batch, 1024, &taken), MAPDB_DONE);
+    }
+    CHECK(mapdb_counts(&copy, &held, &own), MAPDB_DONE);
+    CHECK(held == MAPDB_OPERATIONS && own == 0, 1);
+    batch[0].space.number = 999;
+    CHECK(mapdb_take(&copy, batch, 1, &taken), MAPDB_FULL);
+    CHECK(mapdb_end(&copy, batch[0].space, &issued), MAPDB_FULL);
+    CHECK(mapdb_map(&copy, root, 0, &all, batch[0].space, &all, &issued), MAPDB_FULL);
+    mapdb_destroy(&copy);
+}
+
+static void spending(void)
+{
+    mapdb_copy copy = created(0);
+    mapdb_operation last = {MAPDB_RECORD, 7, (1ULL << 40) - 1, 0, 0x10000, 0x10, {1, 0}, 9, 0,
+                            12,           0};
+    mapdb_issued issued;
+    mapdb_taken taken;
+
+    CHECK(mapdb_take(&copy, &last, 1, &taken), MAPDB_DONE);
+    CHECK(map(&copy, root, page, two, &issued), MAPDB_NUMBERS_SPENT);
+    mapdb_destroy(&copy);
+}
+
+static void asking(void)
+{
+    mapdb_copy copy = created(0), other = created(1);
+    mapdb_issued issued;
+    mapdb_found found, room[3];
+    mapdb_fpage next = fpage(0x20000, 14, MAPDB_READ);
+    mapdb_operation given[2];
+    mapdb_taken taken;
+    uint64_t count = 0;
+    uint64_t end = 0;
+    bool answer = false;
+
+    CHECK(map(&copy, root, page, one, &issued), MAPDB_DONE);
+    CHECK(map(&copy, root, next, one, &issued), MAPDB_DONE);
+    CHECK(mapdb_served(&copy, one, 0x4b, &found), MAPDB_DONE);
+    CHECK(found.frame == 0x13 && found.rights == 6 && found.reserved == 0, 1);
+    CHECK(mapdb_served(&copy, one, 0x4c, &found), MAPDB_NOT_SERVED);
+    CHECK(mapdb_served(&copy, one, ~0ULL, &found), MAPDB_NOT_SERVED);
+    CHECK(mapdb_served(&copy, root, (1ULL << 36) - 1, &found), MAPDB_DONE);
+    CHECK(found.frame, (1ULL << 36) - 1);
+    CHECK(mapdb_served(&copy, root, 1ULL << 36, &found), MAPDB_NOT_SERVED);
+    CHECK(mapdb_rights(&copy, root, 1ULL << 36, room, 3, &count), MAPDB_DONE);
+    CHECK(count, 0);
+    CHECK(mapdb_served(&copy, far_space, 0x48, &found), MAPDB_BAD_SPACE);
+    CHECK(mapdb_run_end(&copy, one, 0x48, &end), MAPDB_DONE);
+    CHECK(end, 0x4c);
+    CHECK(mapdb_run_end(&copy, one, 0x4c, &end), MAPDB_DONE);
+    CHECK(end, 1ULL << 36);
+    CHECK(mapdb_run_end(&copy, root, 1ULL << 36, &end), MAPDB_PAGE_OUT_OF_SPACE);
+    CHECK(mapdb_run_end(&copy, far_space, 0x48, &end), MAPDB_BAD_SPACE);
+    CHECK(mapdb_rights(&copy, one, 0x4b, room, 3, &count), MAPDB_DONE);
+    CHECK(count == 2 && room[0].frame == 0x13 && room[0].rights == 6 && room[1].frame == 0x23 &&
+              room[1].rights == 4,
+          1);
+    CHECK(mapdb_rights(&copy, one, 0x4b, room, 1, &count), MAPDB_NO_ROOM);
+    CHECK(count, 2);
+    CHECK(mapdb_rights(&copy, two, 0x4b, room, 3, &count), MAPDB_DONE);
+    CHECK(count, 0);
+    CHECK(mapdb_rights(&copy, far_space, 0x4b, room, 3, &count), MAPDB_BAD_SPACE);
+    CHECK(mapdb_covers(&copy, &other, &answer), MAPDB_DONE);
+    CHECK(answer, 1);
+    CHECK(mapdb_covers(&other, &copy, &answer), MAPDB_DONE);
+    CHECK(answer, 0);
+    CHECK(mapdb_give(&copy, 0, 2, given, 2, &count), MAPDB_DONE);
+    CHECK(mapdb_take(&other, given + 1, 1, &taken), MAPDB_DONE);
+    CHECK(mapdb_same(&copy, &other, &answer), MAPDB_DONE);
+    CHECK(answer, 0);
+    CHECK(mapdb_take(&other, given, 1, &taken), MAPDB_DONE);
+    CHECK(mapdb_same(&copy, &other, &answer), MAPDB_DONE);
+    CHECK(answer, 1);
+    mapdb_destroy(&copy);
+    mapdb_destroy(&other);
+}
+
+/* What header and docs say of queries: these take no memory. */
+static void asking_without_memory(void)
+{
+    mapdb_copy copy = created(0), other = created(1);
+    mapdb_issued issued;
+    mapdb_found found;
+    uint32_t held, own, version;
+    uint64_t end;
+    unsigned long before;
+    bool answer;
+
+    CHECK(map(&copy, root, page, one, &issued), MAPDB_DONE);
+    CHECK(mapdb_end(&copy, two, &issued), MAPDB_DONE);
+    before = heap_requests;
+    CHECK(mapdb_served(&copy, one, 0x48, &found), MAPDB_DONE);
+    CHECK(mapdb_run_end(&copy, one, 0x48, &end), MAPDB_DONE);
+    CHECK(mapdb_counts(&copy, &held, &own), MAPDB_DONE);
+    CHECK(mapdb_covers(&copy, &other, &answer), MAPDB_DONE);
+    CHECK(mapdb_same(&copy, &other, &answer), MAPDB_DONE);
+    CHECK(mapdb_free_version(&copy, 2, &version), MAPDB_DONE);
+    CHECK(heap_requests - before, 0);
+    mapdb_destroy(&copy);
+    mapdb_destroy(&other);
+}
+
+/* How a copy stands whose second map had a request refused: what it answers, and its blocks then and after one operation more. */
+typedef struct standing {
+    uint32_t status;
+    bool reached;
+    long blocks, later;
+} standing;
+
+static standing mapped_with(unsigned long refused)
+{
+    const mapdb_space three = {3, 0};
+    mapdb_copy copy = created(0);
+    mapdb_issued issued;
+    mapdb_found found = {0, 0, 0};
+    mapdb_row rows[4];
+    uint64_t end = 0, count = 0;
+    long before = heap_blocks;
+    standing answer;
+    int turn;
+
+    CHECK(map(&copy, root, page, two, &issued), MAPDB_DONE);
+    heap_requests = 0;
+    heap_refused = refused;
+    answer.status = map(&copy, two, fpage(0x48000, 14, MAPDB_READ), one, &issued);
+    answer.reached = refused != 0 && heap_requests >= refused;
+    heap_refused = 0;
+    answer.blocks = heap_blocks - before;
+    for (turn = 0; turn < 2 && answer.status == MAPDB_DONE; turn++) {
+        CHECK(mapdb_served(&copy, one, 0x48, &found), MAPDB_DONE);
+        CHECK(found.frame == 0x10 && found.rights == MAPDB_READ, 1);
+        CHECK(mapdb_run_end(&copy, one, 0x48, &end), MAPDB_DONE);
+        CHECK(end, 0x4c);
+        CHECK(mapdb_table(&copy, rows, 4, &count), MAPDB_DONE);
+        CHECK(count == 3 && rows[1].frame == 0x10 && rows[2].frame == 0x10, 1);
+        if (turn == 0)
+            CHECK(mapdb_end(&copy, three, &issued), MAPDB_DONE);
+    }
+    answer.later = heap_blocks - before;
+    mapdb_destroy(&copy);
+    return answer;
+}
+
+/*
+ * Where the index can't have memory, no call fails for it: it lets go of what it has, answers are as
+ * ever, and the next operation has it there again.
+ */
+static void without_an_index(void)
+{
+    standing whole = mapped_with(0), found = whole;
+    unsigned long refused = 0, absent = 0;
+
+    do {
+        found = mapped_with(++refused);
+        if (found.reached && found.status == MAPDB_DONE) {
+            absent += found.blocks < whole.blocks;
+            CHECK(found.later, whole.later);
+        }
+    } while (found.reached);
+    CHECK(absent > 0, 1);
+}
+
+static void tables(void)
+{
+    mapdb_copy copy = created(0);
+    mapdb_issued issued;
+    mapdb_row room[3];
+    mapdb_fpage hole = fpage(0x11000, 12, 7);
+    uint64_t count = 0;
+
+    CHECK(map(&copy, root, page, one, &issued), MAPDB_DONE);
+    CHECK(mapdb_unmap(&copy, root, &hole, 0, &issued), MAPDB_DONE);
+    CHECK(mapdb_table(&copy, room, 2, &count), MAPDB_NO_ROOM);
+    CHECK(count, 3);
+    CHECK(mapdb_table(&copy, room, 3, &count), MAPDB_DONE);
+    CHECK(count == 3 && room[0].space.number == 0 && room[0].page == 0 &&
+              room[0].count == 1ULL << 36,
+          1);
+    CHECK(room[0].frame == 0 && room[0].rights == 7 && room[0].reserved == 0, 1);
+    CHECK(room[1].space.number == 1 && room[1].page == 0x48 && room[1].count == 1 &&
+              room[1].frame == 0x10,
+          1);
+    CHECK(room[2].page == 0x4a && room[2].count == 2 && room[2].frame == 0x12 &&
+              room[2].rights == 6,
+          1);
+    mapdb_destroy(&copy);
+}
+
+static uint32_t load(mapdb_copy *copy, const char *text, mapdb_taken *taken)
+{
+    return mapdb_load(copy, (const uint8_t *)text, strlen(text), taken);
+}
+
+static void snapshots(void)
+{
+    static const char wanted[] =
+        "{\"cuts\":[],\"ended\":[],\"records\":[[1,0,1,0,72,14,0,0,16,6]],\"version\":3}";
+    mapdb_copy copy = created(0), other = created(1);
+    mapdb_issued issued;
+    mapdb_taken taken;
+    uint8_t text[256];
+    uint64_t count = 0;
+    bool answer = false;
+
+    CHECK(map(&copy, root, page, one, &issued), MAPDB_DONE);
+    CHECK(mapdb_snapshot(&copy, text, 3, &count), MAPDB_NO_ROOM);
+    CHECK(count, sizeof wanted - 1);
+    CHECK(mapdb_snapshot(&copy, text, sizeof text, &count), MAPDB_DONE);
+    CHECK(count == sizeof wanted - 1 && memcmp(text, wanted, count) == 0, 1);
+    CHECK(mapdb_load(&other, text, count, &taken), MAPDB_DONE);
+    CHECK(taken.count, 1);
+    CHECK(mapdb_same(&copy, &other, &answer), MAPDB_DONE);
+    CHECK(answer, 1);
+    CHECK(load(&other, "{", &taken), MAPDB_NOT_JSON);
+    CHECK(load(&other, "[]", &taken), MAPDB_SNAPSHOT_SHAPE);
+    CHECK(load(&other, "{\"version\":9}", &taken), MAPDB_SNAPSHOT_VERSION);
+    CHECK(load(&other,
+               "{\"cuts\":[],\"ended\":[],\"records\":[[1,0,1,0,73,14,0,0,16,6]],\"version\":3}",
+               &taken),
+          MAPDB_UNALIGNED);
+    CHECK(load(&other,
+               "{\"cuts\":[],\"ended\":[],\"records\":[[0,0,1,0,72,14,0,0,16,6]],\"version\":3}",
+               &taken),
+          MAPDB_BAD_NUMBER);
+    CHECK(load(&other,
+               "{\"cuts\":[],\"ended\":[],\"records\":[[1,0,2,0,72,14,0,0,16,6]],\"version\":3}",
+               &taken),
+          MAPDB_CLASH);
+    CHECK(taken.number, 1);
+    mapdb_destroy(&copy);
+    mapdb_destroy(&other);
+}
+
+static void names(void)
+{
+    uint32_t status, other;
+
+    for (status = 0; status <= MAPDB_SNAPSHOT_VERSION; status++)
+        for (other = 0; other < status; other++)
+            CHECK(strcmp(mapdb_status_name(status), mapdb_status_name(other)) != 0, 1);
+    CHECK(strcmp(mapdb_status_name(MAPDB_SNAPSHOT_VERSION + 1), "unknown"), 0);
+}
+
+/* A path over every call that takes memory. It answers whether a call wanted memory. */
+static bool wanting(void)
+{
+    mapdb_copy copy = MAPDB_EMPTY, other = MAPDB_EMPTY;
+    mapdb_issued issued;
+    mapdb_taken taken;
+    mapdb_operation given[8];
+    mapdb_found found[4];
+    mapdb_row rows[8];
+    uint8_t text[512];
+    mapdb_fpage first_page = fpage(0x10000, 12, MAPDB_WRITE);
+    uint64_t count = 0, length = 0;
+    uint32_t statuses[12], place;
+    bool wanted = false;
+
+    statuses[0] = mapdb_create(&copy, 0);
+    statuses[1] = mapdb_create(&other, 1);
+    statuses[2] = map(&copy, root, page, one, &issued);
+    statuses[3] = mapdb_unmap(&copy, root, &first_page, 0, &issued);
+    statuses[4] = mapdb_end(&copy, two, &issued);
+    statuses[5] = mapdb_rights(&copy, one, 0x48, found, 4, &count);
+    statuses[6] = mapdb_table(&copy, rows, 8, &count);
+    statuses[7] = mapdb_snapshot(&copy, text, sizeof text, &length);
+    statuses[8] = MAPDB_DONE;
+    if (statuses[7] == MAPDB_DONE)
+        statuses[8] = mapdb_load(&other, text, length, &taken);
+    statuses[9] = mapdb_give(&copy, 0, 1, given, 8, &count);
+    statuses[10] = mapdb_give_own(&copy, 0, 1, given, 8, &count);
+    statuses[11] = MAPDB_DONE;
+    if (statuses[10] == MAPDB_DONE)
+        statuses[11] = mapdb_take(&other, given, count, &taken);
+    for (place = 0; place < 12; place++)
+        wanted = wanted || statuses[place] == MAPDB_MEMORY;
+    mapdb_destroy(&copy);
+    mapdb_destroy(&other);
+    return wanted;
+}
+
+static void refusing(void)
+{
+    unsigned long refused, absorbed = 0;
+    bool reached = true;
+
+    for (refused = 1; reached; refused++) {
+        heap_requests = 0;
+        heap_refused = refused;
+        bool wanted = wanting();
+        reached = heap_requests >= refused;
+        heap_refused = 0;
+        CHECK(heap_blocks, 0);
+        CHECK(wanted && !reached, 0);
+        absorbed += reached && !wanted;
+    }
+    printf("requests for memory refused in turn: %lu, of which %lu were done without\n",
+           refused - 2, absorbed);
+}
+
+int main(void)
+{
+    no_copy();
+    making();
+    mapping();
+    unmapping();
+    ending();
+    giving();
+    taking();
+    filling();
+    spending();
+    asking();
+    asking_without_memory();
+    without_an_index();
+    tables();
+    snapshots();
+    names();
+    CHECK(heap_blocks, 0);
+    refusing();
+    CHECK(heap_blocks, 0);
+    printf("calls: %d passed, %d failed\n", passed, failed);
+    return failed != 0;
+}

@@ -1,0 +1,148 @@
+#!/bin/sh
+# Builds the archive, compiles the header, the examples and the tests with all warnings as errors,
+# and runs them: as C99, C17 and C++17, under the address and undefined-behaviour sanitizers, under
+# valgrind where it is there, and by scripts against l4map. The last line is 'N passed, M failed'.
+# Use: tests/c/run.sh, anywhere; with an archive that is built: ARCHIVE=FILE tests/c/run.sh; with more random scripts:
+# RANDOM_SCRIPTS=10000 tests/c/run.sh
+set -u
+top=$(CDPATH= cd -- "$(dirname -- "$0")/../.." && pwd)
+cd "$top" || exit 2
+build=$(mktemp -d)
+trap 'rm -rf "$build"' EXIT
+passed=0
+failed=0
+
+# Tries a command, and tells of one that fails.
+try() {
+    name=$1
+    shift
+    if "$@" >"$build/log" 2>&1; then
+        passed=$((passed + 1))
+    else
+        failed=$((failed + 1))
+        echo "failed: $name"
+        tail -n 20 "$build/log"
+    fi
+}
+
+done_with() {
+    echo "$passed passed, $failed failed"
+    [ "$failed" -eq 0 ]
+    exit
+}
+
+if [ -z "${ARCHIVE:-}" ]; then
+    ARCHIVE=$top/crates/mapdb_c/out/libmapdb_c.a
+    try "the archive" sh -c 'cd crates/mapdb_c && rt lib'
+    [ "$failed" -eq 0 ] || done_with
+fi
+# For a relative name of the caller's.
+case $ARCHIVE in /*) ;; *) ARCHIVE=$top/$ARCHIVE ;; esac
+
+# What the archive wants of its surroundings is what the header says, and no more.
+wanted() {
+    nm "$ARCHIVE" | awk '$1 == "U" { print $2 }' | sort -u >"$build/wanted"
+    nm "$ARCHIVE" | awk 'NF == 3 && $2 != "U" { print $3 }' | sort -u >"$build/there"
+    comm -23 "$build/wanted" "$build/there" |
+        grep -vxE 'memcpy|memmove|memset|rattle_(alloc|realloc|dealloc)'
+}
+# Each call of the header is in the archive, and each export of the archive is in the header.
+declared() {
+    grep -oE 'mapdb_[a-z_]+\(' include/mapdb.h | tr -d '(' | grep -vx mapdb_status_name |
+        sort -u >"$build/declared"
+    nm "$ARCHIVE" | awk '$2 == "T" { print $3 }' | grep '^mapdb_' | sort -u >"$build/exported"
+    diff "$build/declared" "$build/exported"
+}
+no_more_wanted() { ! wanted | grep .; }
+try "what the archive wants" no_more_wanted
+try "the header's calls are those of the archive" declared
+
+warnings="-Wall -Wextra -Wpedantic -Wshadow -Werror"
+c_files="c/mapdb_heap.c examples/c/smallest.c examples/c/two_processors.c tests/c/calls.c
+    tests/c/counting_heap.c tests/c/script.c"
+for compiler in gcc clang; do
+    command -v $compiler >/dev/null 2>&1 || continue
+    for file in $c_files; do
+        for standard in c99 c17; do
+            try "$compiler $standard $file" $compiler -std=$standard $warnings -Wstrict-prototypes -Wconversion \
+                -Wno-sign-conversion -O2 -Iinclude -fsyntax-only "$file"
+        done
+        try "$compiler c++17 $file" $compiler -x c++ -std=c++17 $warnings -O2 -Iinclude -fsyntax-only "$file"
+    done
+    echo '#include "mapdb.h"' >"$build/header.c"
+    try "$compiler freestanding header" $compiler -std=c99 -ffreestanding $warnings -Iinclude -fsyntax-only "$build/header.c"
+done
+
+# The same programs in C and in C++, plain and under the sanitizers.
+compiled() {
+    out=$1
+    shift
+    try "builds $out" "$@" -Iinclude -pthread -o "$build/$out" "$ARCHIVE"
+}
+sanitized="-g -O1 -fsanitize=address,undefined -fno-sanitize-recover=all"
+for way in plain sanitized; do
+    if [ $way = plain ]; then flags=-O2; else flags=$sanitized; fi
+    # The flags are words.
+    # shellcheck disable=SC2086
+    {
+        compiled smallest_$way gcc $flags examples/c/smallest.c c/mapdb_heap.c
+        compiled two_processors_$way gcc $flags examples/c/two_processors.c c/mapdb_heap.c
+        compiled calls_$way gcc $flags tests/c/calls.c tests/c/counting_heap.c
+        compiled script_$way gcc $flags tests/c/script.c c/mapdb_heap.c
+        try "the heap, $way" gcc $flags -c -o "$build/heap_$way.o" tests/c/counting_heap.c
+        compiled calls_cpp_$way g++ -std=c++17 $flags -x c++ tests/c/calls.c -x none "$build/heap_$way.o"
+    }
+    try "smallest, $way" "$build/smallest_$way"
+    for turn in 1 2 3 4 5; do
+        try "two processors, $way, turn $turn" "$build/two_processors_$way"
+    done
+    try "calls, $way" "$build/calls_$way"
+    try "calls in C++, $way" "$build/calls_cpp_$way"
+done
+
+# A program with no C library at all.
+freestanding() {
+    gcc -std=c17 -O2 $warnings -ffreestanding -fno-builtin -fno-stack-protector -nostdlib -static -Iinclude \
+        -o "$build/freestanding" tests/c/freestanding.c "$ARCHIVE" && "$build/freestanding"
+}
+try "freestanding" freestanding
+
+if command -v valgrind >/dev/null 2>&1; then
+    for program in smallest_plain two_processors_plain calls_plain; do
+        try "$program under valgrind" valgrind -q --leak-check=full --errors-for-leak-kinds=all --error-exitcode=9 \
+            "$build/$program"
+    done
+fi
+
+# Scripts: the stored replies of the examples, and where l4map is built its replies to each script
+# of tests/c/scripts.
+replies() {
+    "$build/script_sanitized" <"$1" >"$build/replies" && diff "$2" "$build/replies"
+}
+for script in examples/*.l4; do
+    case $script in */threads.l4) continue ;; esac
+    grep -q '^tree' "$script" && continue
+    try "$script" replies "$script" "${script%.l4}.out"
+done
+tool=${L4MAP:-$top/crates/l4map/out/l4map}
+for script in tests/c/scripts/*.l4; do
+    try "$script" replies "$script" "${script%.l4}.out"
+    if [ -x "$tool" ]; then
+        "$tool" run <"$script" >"$build/tool"
+        try "$script as l4map runs it" replies "$script" "$build/tool"
+    fi
+done
+
+if [ -x "$tool" ] && command -v python3 >/dev/null 2>&1; then
+    try "random scripts as l4map runs them" python3 tests/c/compare.py --driver "$build/script_plain" --program "$tool" \
+        --count "${RANDOM_SCRIPTS:-1000}"
+fi
+
+if command -v cargo >/dev/null 2>&1; then
+    rust() {
+        cd bindings/rust && MAPDB_ARCHIVE=$(dirname "$ARCHIVE") CARGO_TARGET_DIR=$build/rust cargo test --offline -q
+    }
+    try "the crate for Rust" rust
+fi
+
+done_with
