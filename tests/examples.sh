@@ -1,0 +1,94 @@
+#!/usr/bin/env bash
+# Runs the examples that are more than a script: copies on several machines (examples/many-machines), and the check
+# of a kernel's log (examples/checking); and the commands that their texts show. The program is L4MAP, or
+# crates/l4map/out/l4map. The last line is `N passed, M failed`; the status is 0 only where none failed.
+set -uo pipefail
+top=$(CDPATH= cd -- "$(dirname -- "$0")/.." && pwd)
+L4MAP=$(realpath -m -- "${L4MAP:-$top/crates/l4map/out/l4map}")
+export L4MAP PYTHONDONTWRITEBYTECODE=1
+checking=$top/examples/checking
+machines=$top/examples/many-machines
+
+if ! [[ -x $L4MAP ]]; then
+    echo "$L4MAP is not there: ./l4map builds it, and L4MAP names another"
+    echo "0 passed, 1 failed"
+    exit 1
+fi
+folder=$(mktemp -d)
+trap 'rm -rf "$folder"' EXIT
+passed=0
+failed=0
+
+# Counts a test by its status, and shows what it told where it failed.
+count() {
+    if [[ $2 -eq 0 ]]; then
+        passed=$((passed + 1))
+    else
+        failed=$((failed + 1))
+        echo "failed: $1"
+        cat "$folder/told"
+    fi
+}
+
+# What a command writes, and its status behind it, are the rest of the arguments, line by line.
+expect() {
+    local name=$1 command=$2
+    shift 2
+    $command >"$folder/found" 2>&1
+    echo "status $?" >>"$folder/found"
+    printf '%s\n' "$@" | diff - "$folder/found" >"$folder/told"
+    count "$name" $?
+}
+
+# The output that the README shows, and one that was written, without their numbers.
+is_shown() {
+    sed -n '/many-machines\/run.sh$/,/^$/{s/^    //p}' "$machines/README.md" | sed '1,2d;s/[0-9]\+/N/g' >"$folder/shown"
+    sed '1d;s/[0-9]\+/N/g' "$1" | diff "$folder/shown" - >"$folder/told"
+}
+
+many_machines() {
+    "$machines/run.sh" >"$folder/told" 2>&1
+    local status=$?
+    cp "$folder/told" "$folder/machines"
+    if [[ $status -eq 77 ]]; then
+        cat "$folder/told"
+        return
+    fi
+    count "many-machines/run.sh" "$status"
+    is_shown "$folder/machines"
+    count "many-machines: the output is of the form that README.md shows" $?
+}
+
+log_checking() {
+    "$checking/toy_kernel.py" --bug | diff "$checking/kernel.log" - >"$folder/told"
+    count "checking: the toy kernel writes the stored log" $?
+    "$checking/toy_kernel.py" >"$folder/good.log"
+    expect "checking: the planted fault" "$checking/first_difference.py $checking/kernel.log" \
+        "line 38: served 1 2 80000" "kernel:   served 00010:rw-" "database: served 00010:r--" \
+        "processor 1 was last changed by line 34: deliver 1 1" "status 1"
+    expect "checking: without the fault" "$checking/first_difference.py $folder/good.log" \
+        "no difference: 27 answers compared, 5 of them show less" "status 0"
+    expect "checking: a page that shows less" "$checking/first_difference.py --exact $folder/good.log" \
+        "line 13: served 1 1 40000" "kernel:   served none" "database: served 00010:rw-" \
+        "processor 1 was last changed by line 11: deliver 0 1" "status 1"
+    sed '26s/unmap/unmpa/' "$folder/good.log" >"$folder/faulty.log"
+    expect "checking: a line that is none" "$checking/first_difference.py $folder/faulty.log" \
+        "the log is no script: line 26 fault unknown" "status 2"
+    sed '27s/1/2/' "$folder/good.log" >"$folder/count.log"
+    expect "checking: another count" "$checking/first_difference.py $folder/count.log" \
+        "line 26: unmap 0 1 40000/12:-w- flush" "kernel:   revocations 2" "database: revocations 1" \
+        "processor 0 was last changed by line 4: map 0 0 11000/12:rw- 0 1 41000/12" "status 1"
+}
+
+# Each command that a text shows writes what the text shows.
+shown() {
+    "$top/tests/shown.py" "$top/$1" "$L4MAP" >"$folder/told" 2>&1
+    count "$1: what its commands write" $?
+}
+
+many_machines
+log_checking
+shown docs/CHECKING.md
+shown examples/many-machines/README.md
+echo "$passed passed, $failed failed"
+[[ $failed -eq 0 ]]
