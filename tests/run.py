@@ -1,30 +1,32 @@
 #!/usr/bin/env python3
 """Meets the built program from outside.
 
-    tests/run.py [--short] [--jobs N] [--program PATH] [rows] [refusals] [streams] [hostile] [fuzz]
+    tests/run.py [--short] [--jobs N] [--program PATH] [KIND ..]
     tests/run.py fuzz [--minutes N | --count N] [--seed S]
 
-Runs these kinds of tests, or all. Each tells what it ran, and how many cases passed and failed. The
-last line is the sum, `N passed, M failed`; the status is 0 only where none failed.
+Runs these kinds of tests, or all: rows, dialogue, refusals, streams, hostile, fuzz and planted. Each tells
+what it ran, and how many cases passed and failed. The last line is the sum, `N passed, M failed`;
+the status is 0 only where none failed.
 """
 
 import argparse
 import os
 import sys
-from typing import Optional
 
 sys.path.insert(0, os.path.dirname(os.path.abspath(__file__)))
 
+from driver.dialogue import run_dialogues  # noqa: E402
 from driver.fuzz import fuzz  # noqa: E402
 from driver.hostile import run_hostile  # noqa: E402
-from driver.interposer import Interposer, Workshop  # noqa: E402
+from driver.interposer import Workshop  # noqa: E402
+from driver.planted import run_planted  # noqa: E402
 from driver.program import BUILT, Program  # noqa: E402
 from driver.refusals import run_refusals  # noqa: E402
 from driver.rows import run_rows  # noqa: E402
 from driver.streams import run_streams  # noqa: E402
 from driver.tally import Tally, total  # noqa: E402
 
-KINDS = ["rows", "refusals", "streams", "hostile", "fuzz"]
+KINDS = ["rows", "dialogue", "refusals", "streams", "hostile", "fuzz", "planted"]
 SHORT_COUNT = 5000
 LONG_COUNT = 100000
 
@@ -52,11 +54,13 @@ def options() -> argparse.Namespace:
 
 
 def run_kind(
-    kind: str, chosen: argparse.Namespace, program: Program, interposer: Optional[Interposer]
+    kind: str, chosen: argparse.Namespace, program: Program, workshop: Workshop
 ) -> Tally:
     """Runs one kind of tests."""
     if kind == "rows":
         return run_rows(program)
+    if kind == "dialogue":
+        return run_dialogues(program)
     if kind == "hostile":
         return run_hostile(program, chosen.short)
     if kind == "fuzz":
@@ -66,6 +70,9 @@ def run_kind(
         return fuzz(
             program, count, chosen.seed, chosen.minutes, chosen.jobs, may_be_great=not chosen.short
         )
+    interposer = workshop.interposer
+    if kind == "planted":
+        return run_planted(program, interposer, workshop.folder, chosen.jobs)
     if interposer is None:
         return Tally(kind).skip("there is no C compiler")
     run_interposed = run_refusals if kind == "refusals" else run_streams
@@ -80,10 +87,7 @@ def main() -> int:
         print("0 passed, 1 failed")
         return 1
     with Workshop() as workshop:
-        interposer = workshop.interposer()
-        return total(
-            [run_kind(kind, chosen, program, interposer) for kind in chosen.kinds or KINDS]
-        )
+        return total([run_kind(kind, chosen, program, workshop) for kind in chosen.kinds or KINDS])
 
 
 if __name__ == "__main__":

@@ -2,7 +2,7 @@
 
 from driver import great
 from driver.program import Program
-from driver.rows import run_script
+from driver.rows import run_all, run_script
 from driver.scripts import Script, rows
 from driver.tally import Tally
 
@@ -15,12 +15,11 @@ SHORT_CHAIN = 300
 def run_hostile(program: Program, short: bool) -> Tally:
     """The stored rows that are hostile, and those that are made; the slow ones in the long form
     only."""
-    tally = Tally("hostile")
     scripts = [script for script in rows() if script.name.startswith(HOSTILE)]
     scripts += great.line_limits() + [great.long_threads(), great.chain_one_by_one(SHORT_CHAIN)]
     scripts += [great.in_threads(script) for script in great.line_limits() if script.status == 1]
     slow = [] if short else slow_scripts()
-    tally.check_all(run_script(program, script, SHORT_LIMIT) for script in scripts)
+    tally = run_all("hostile", program, scripts, SHORT_LIMIT)
     tally.check_all(run_script(program, script, LONG_LIMIT) for script in slow)
     return tally.end("%d scripts, and %d slow ones" % (len(scripts), len(slow)))
 

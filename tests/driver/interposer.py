@@ -1,6 +1,7 @@
 """The library that stands before the C library in a run: it refuses memory and threads, and
 makes streams fail."""
 
+import functools
 import os
 import shlex
 import shutil
@@ -32,17 +33,19 @@ LAYOUT = struct.Struct("=%dQ" % len(Counts._fields))
 
 
 class Interposer:
-    """The library, compiled for this machine, and a file of counters for each thread."""
+    """The library, compiled for this machine, and a file of counters for each thread of each
+    process."""
 
-    def __init__(self, folder: str, library: str):
+    def __init__(self, folder: str, library: str, compiler: list[str]):
         self.library = library
         self.folder = folder
+        self.compiler = compiler
 
     def run(self, program: Program, arguments: list[str], source: bytes, limit: float = 60,
             **wanted: int) -> tuple[Outcome, Counts]:
         """Runs the program with what is wanted of the library, as `allocation=3`; tells what it
         met too."""
-        report = os.path.join(self.folder, "counts-%d" % threading.get_ident())
+        report = os.path.join(self.folder, "counts-%d-%d" % (os.getpid(), threading.get_ident()))
         with open(report, "wb") as file:
             file.write(bytes(LAYOUT.size))
         added = {"INTERPOSE_" + name.upper(): str(number) for name, number in wanted.items()}
@@ -64,14 +67,15 @@ class Workshop:
     def __exit__(self, *_) -> None:
         shutil.rmtree(self.folder, ignore_errors=True)
 
+    @functools.cached_property
     def interposer(self) -> Optional[Interposer]:
-        """The library, or None where there is no C compiler."""
+        """The library, compiled when it is first asked for; None where there is no C compiler."""
         found = [os.environ.get("CC"), *map(shutil.which, ["cc", "gcc", "clang"])]
         compiler = next(filter(None, found), None)
         if compiler is None:
             return None
         library = os.path.join(self.folder, "interpose.so")
+        words = shlex.split(compiler)
         flags = "-shared -fPIC -O1 -Wall -Wextra".split()
-        command = [*shlex.split(compiler), *flags, "-o", library, SOURCE, "-ldl"]
-        subprocess.run(command, check=True)
-        return Interposer(self.folder, library)
+        subprocess.run([*words, *flags, "-o", library, SOURCE, "-ldl"], check=True)
+        return Interposer(self.folder, library, words)

@@ -82,11 +82,15 @@ def all_series(short: bool) -> list[Series]:
 
 def run_refusals(program: Program, interposer: Interposer, short: bool, jobs: int) -> Tally:
     """Refuses each allocation and each thread, alone and with all behind it."""
+    return refuse_all(program, interposer, all_series(short), jobs)
+
+
+def refuse_all(program: Program, interposer: Interposer, every: list[Series], jobs: int) -> Tally:
+    """Runs these series."""
     tally, ends = Tally("refusals"), Counter()
     if not sees_allocations(program, interposer):
         tally.check(Met(False, "counting", "a script was run, and no allocation was counted"))
         return tally.end("nothing")
-    every = all_series(short)
     with ThreadPoolExecutor(jobs) as pool:
         for found in pool.map(lambda series: run_series(program, interposer, series), every):
             for end, met in found:

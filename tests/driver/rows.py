@@ -1,5 +1,7 @@
 """Scripts with their outputs, which were made from the definitions and not by this program."""
 
+from typing import Iterable
+
 from driver.program import Program, difference
 from driver.scripts import Script, examples, rows
 from driver.tally import Met, Tally
@@ -13,9 +15,17 @@ def run_script(program: Program, script: Script, limit: float = 60) -> Met:
     return Met(found == wanted, script.name, difference(wanted, found))
 
 
+def run_all(
+    kind: str, program: Program, scripts: Iterable[Script], limit: float = 60
+) -> Tally:
+    """Runs these scripts."""
+    tally = Tally(kind)
+    tally.check_all(run_script(program, script, limit) for script in scripts)
+    return tally
+
+
 def run_rows(program: Program) -> Tally:
     """Runs all rows and examples."""
-    tally = Tally("rows")
     stored_rows, stored_examples = rows(), examples()
-    tally.check_all(run_script(program, script) for script in stored_rows + stored_examples)
+    tally = run_all("rows", program, stored_rows + stored_examples)
     return tally.end("%d rows and %d examples" % (len(stored_rows), len(stored_examples)))

@@ -102,9 +102,16 @@ def run_into_closed_pipe(program: Program, script: Script) -> Outcome:
 def run_streams(program: Program, interposer: Interposer, short: bool, jobs: int) -> Tally:
     """All rows and examples in small pieces, and with each read and write failing; in the short
     form some of them."""
-    tally = Tally("streams")
     scripts = [script for script in rows() + examples() if len(script.source) < LONGEST_SCRIPT]
     failing = [script for script in scripts if not short or script.name in SHORT]
+    return stream_all(program, interposer, scripts, failing, jobs)
+
+
+def stream_all(program: Program, interposer: Interposer, scripts: list[Script],
+               failing: list[Script], jobs: int) -> Tally:
+    """Runs some scripts in small pieces, others with each read and write failing, and meets the
+    system's failures."""
+    tally = Tally("streams")
     with ThreadPoolExecutor(jobs) as pool:
         for met in pool.map(lambda script: small_pieces(program, interposer, script), scripts):
             tally.check_all(met)

@@ -35,6 +35,10 @@ def words_line(world: World) -> str:
     world.remember(receiver, source, base, "%x/%d" % (address, order))
     first = base | world.random.choice([8, 9])
     second = kernel_word(world, source.address, source.order) | world.random.choice([7, 7, 6, 5, 0])
+    if world.seldom(0.06):
+        first ^= 1 << world.random.randrange(10)
+    if world.seldom(0.03):
+        second |= 8
     window = kernel_word(world, address, order) | world.random.randrange(16)
     return "words %d %s %x %x %s %x" % (
         world.processor(), source.space, first, second, receiver, window

@@ -1,5 +1,6 @@
 """One script for each seed."""
 
+import json
 from random import Random
 from typing import Callable, NamedTuple
 
@@ -71,6 +72,40 @@ def hostile_json(random: Random) -> bytes:
             text = spoiling.spoil_json(random, texts.snapshot(world).encode())
         script.append(b"load 0 " + text.replace(b"\n", b""))
     return b"\n".join(script + [b"save 0", b""])
+
+
+def nearly_same(random: Random) -> bytes:
+    """Two copies take texts that are the same but for one number, and are compared and merged."""
+    world = World(random, random.random() < 0.3, processors=2)
+    world.active = 2
+    text = texts.snapshot(world)
+    other = texts.nearly(random, text)
+    script = ["processors 2", "load 0 " + text, "load 1 " + other]
+    script += random.choices(["save 0", "save 1", "load 0 " + other, "unmap 0 1 all:-w- keep"],
+                             k=random.randrange(3))
+    script += ["same 0 1", "covers 0 1", "covers 1 0"]
+    for pair in random.sample(["0 1", "1 0"], 2):
+        script += ["merge " + pair, "same 0 1", "save 0", "save 1"]
+    return joined(random, script)
+
+
+def in_slices(random: Random) -> bytes:
+    """A record and its children come in any order; what some unmaps of it issue is sent one by one,
+    and some of it comes to another copy."""
+    world = World(random, random.random() < 0.2, processors=2)
+    records = texts.family(world, random.randrange(2, 7))
+    _, _, number, version, page, order, *_ = records[0]
+    text = json.dumps({"cuts": [], "ended": [], "records": records, "version": 3})
+    script = ["processors 2", "load 0 " + text, "load 1 " + text]
+    for _ in range(random.randrange(1, 4)):
+        part = random.choice(["all", "%x/%d" % (page << 12, order), world.source().fpage()])
+        script.append("unmap 0 %d.%d %s:%s %s" % (
+            number, version, part, world.rights(), random.choice(["keep", "flush"])))
+    marks = [len(records) + random.randrange(len(records) + 2) for _ in range(6)]
+    script += ["send 0 %d %d" % (mark, mark + 1) for mark in marks]
+    for message in random.sample(range(6), 3):
+        script += ["deliver %d 1" % message, "save 1"]
+    return joined(random, script + ["save 0"])
 
 
 def saved_and_loaded(random: Random) -> bytes:
@@ -168,6 +203,8 @@ KINDS = {
     "loads": (over(lines.LOADS), 10),
     "wide loads": (over(lines.LOADS, wide=True), 5),
     "saved and loaded": (saved_and_loaded, 4),
+    "nearly the same": (nearly_same, 5),
+    "in slices": (in_slices, 3),
     "kernel words": (over(lines.WORDS, wide=True), 3),
     "hostile words": (hostile_words, 9),
     "hostile bytes": (hostile_bytes, 5),

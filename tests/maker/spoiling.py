@@ -25,6 +25,14 @@ COMMANDS = """
 """.split() + ["rights\t0", "\t", "\r", "\0"]
 WORDS = NUMBERS + ADDRESSES + FPAGES + COMMANDS
 
+
+def alike(word: str) -> list[str]:
+    """Words that may stand where this one stands, or nearly."""
+    if "/" in word or word in ("nil", "all"):
+        return FPAGES
+    return NUMBERS + ADDRESSES if word[:1].isdigit() else WORDS
+
+
 PIECES = [
     b"\0", b"\r", b"\r\n", b"\n", b"\n\n", b" ", b"\t", b"#", b"\x0b", b"\x1a",
     b"\xff", b"\xc3\x28", b"\xef\xbb\xbf", b"\xe2\x80\xa8", b"\xc2\xa0", b"\xed\xa0\x80",
@@ -49,7 +57,7 @@ def spoil_words(random: Random, lines: list[str]) -> list[str]:
         place = random.randrange(len(words))
         shot = random.random()
         if shot < 0.8:
-            words[place] = random.choice(WORDS)
+            words[place] = random.choice(random.choice([WORDS, alike(words[place])]))
         elif shot < 0.9:
             words.pop(place)
         else:

@@ -1,6 +1,8 @@
 """Texts of snapshots: those that are taken, and those with one thing that is wrong."""
 
 import json
+import re
+from random import Random
 
 from maker.worlds import Region, World
 
@@ -65,16 +67,53 @@ def ended(world: World, version: int):
 
 
 def record(world: World, version: int) -> list[int]:
-    """A record whose parent comes before it, and whose source is aligned as its place is."""
+    """A record at a place of this world."""
     own, (address, order) = number(world), world.place()
     to = space(world, version)
     world.mapped.append(Region(".".join(map(str, to)), address, order))
-    parent = [0, 0] if own < 2 or world.random.random() < 0.4 else [
-        world.random.randrange(1, min(own, 8)), processor(world)
-    ]
-    source = world.known().address >> order << order >> PAGE
+    place, source = [address >> PAGE, order], source_page(world, order)
     rights = world.random.choice([7, 7, world.random.randrange(8)])
-    return [own, processor(world), *to, address >> PAGE, order, *parent, source, rights]
+    return [own, processor(world), *to, *place, *parent_of(world, own), source, rights]
+
+
+def parent_of(world: World, own: int) -> list[int]:
+    """Mostly a name that comes before the record's number; now and then one that does not."""
+    if world.seldom(0.02):
+        return [own + world.random.randrange(2), processor(world)]
+    if own < 2 or world.seldom(0.4):
+        return [0, 0]
+    return [world.random.randrange(1, min(own, 8)), processor(world)]
+
+
+def source_page(world: World, order: int) -> int:
+    """Mostly a page that is aligned as a place of this order is; now and then another one."""
+    source = world.known().address >> order << order >> PAGE
+    return source ^ 1 << world.random.randrange(44) if world.seldom(0.02) else source
+
+
+def family(world: World, size: int) -> list[list[int]]:
+    """A record and its children, in any order; the pages of each child are some of the record's."""
+    parent = record(world, 3)
+    parent[0] = 1
+    children = []
+    for own in world.random.sample(range(2, 2 + 2 * size), size):
+        child = record(world, 3)
+        child[0], child[5], child[6:8] = own, min(child[5], parent[5]), parent[:2]
+        parts = 1 << parent[5] - child[5]
+        child[8] = parent[4] + (world.random.randrange(parts) << child[5] - PAGE)
+        children.append(child)
+    return [parent] + children
+
+
+def nearly(random: Random, text: str) -> str:
+    """The text with another number in place of one of its own."""
+    found = list(re.finditer("[0-9]+", text))
+    if not found:
+        return text
+    chosen = random.choice(found)
+    value = int(chosen[0])
+    other = random.choice([value + 1, max(0, value - 1), value ^ 4, *SPELLED])
+    return text[:chosen.start()] + str(other) + text[chosen.end():]
 
 
 def spoil(world: World, value: dict) -> None:
@@ -107,6 +146,7 @@ def spoil_row(world: World, rows: list, row: int) -> None:
         rows[row][place_in_row] = random.choice(STRANGE)
 
 
+SPELLED = ["-0", "1.0", "1e0", "-1", "01", "true", "null", "[]", "1e400", "18446744073709551616"]
 LIMITS = [7, 8, 11, 12, 32, 33, 48, 49, 63, 64, 255, 256, 65535, 65536]
 POWERS = [20, 32, 36, 40, 52, 53, 63, 64, 65, 128]
 STRANGE = (

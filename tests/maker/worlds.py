@@ -61,7 +61,9 @@ class World:
         return self.random.choice(self.spaces + ["0"])
 
     def receiver(self) -> str:
-        """Mostly one that can receive."""
+        """Mostly one that can receive; now and then a later version of memory's number."""
+        if self.seldom(0.01):
+            return "0.%d" % self.random.choice([1, 2, 4294967295])
         return self.space() if self.seldom(0.05) else self.random.choice(self.spaces)
 
     def place(self) -> tuple[int, int]:
@@ -113,6 +115,8 @@ class World:
         return "".join(self.random.choice([letter, letter, "-"]) for letter in "rwx")
 
     def address(self, region: Region) -> int:
-        """An address in the region, or beside it."""
+        """An address in the region, or beside it; now and then one that is too large."""
+        if self.seldom(0.003):
+            return 1 << WHOLE
         step = self.random.choice([0, 0, 0x1000, (1 << region.order) - 1, 1 << region.order, -1])
         return max(0, min(region.address + step, (1 << WHOLE) - 1))

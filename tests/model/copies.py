@@ -2,7 +2,7 @@
 
 from typing import NamedTuple, Optional
 
-from model.facts import NUMBERS, ROOT, Cut, End, Facts, Name, Operation, Record, fault_of
+from model.facts import NUMBERS, Cut, End, Facts, Name, Operation, Record, fault_of
 from model.places import MEMORY, Item, Pages, Place, Space, spell_space, transfer_of
 from model.rights import has_some_right, holders, pages_of
 

@@ -1,0 +1,112 @@
+"""Faults that the sums have to report: the last line and the status of the driver and of `all`."""
+
+import os
+import shutil
+import subprocess
+import sys
+from typing import NamedTuple
+
+from driver.program import TESTS, Program
+from driver.tally import Tally
+from planted.faults import Fault, Scene, wrapped
+
+LIMIT = 120
+FAILED = "^[0-9]+ passed, [1-9][0-9]* failed$"
+
+# Answers nothing, and asks for memory once.
+SILENT = """
+#include <stdlib.h>
+int main(void) { free(malloc(64)); return 0; }
+"""
+
+
+class Part(NamedTuple):
+    """What a part of `all` tells, and its status."""
+
+    told: str
+    status: int
+
+
+# The part of `all` behind the first two. That for C does not run where its archive is not there.
+LATER = [os.path.join("tests", "examples.sh")]
+
+WELL, ALSO_WELL = Part("3 passed, 0 failed", 0), Part("20 passed, 0 failed", 0)
+
+# Name, the last line, and what both parts tell.
+SUMS = [
+    ("a first part that fails", "2 passed, 1 failed", Part("2 passed, 1 failed", 1), ALSO_WELL),
+    ("a first part that fails without a failure", "3 passed, 1 failed", Part(WELL.told, 1),
+     ALSO_WELL),
+    ("a first part without a sum", "0 passed, 1 failed", Part("well", 0), ALSO_WELL),
+    ("a first part without a word", "0 passed, 1 failed", Part("", 1), ALSO_WELL),
+    ("a second part that fails", "22 passed, 1 failed", WELL, Part("19 passed, 1 failed", 1)),
+    ("a second part without a sum", "3 passed, 1 failed", WELL, Part("well", 0)),
+]
+
+
+def sums_faults() -> list[Fault]:
+    return [
+        Fault("sums", "as it is", None, lambda scene: run_all_of(scene, "well", WELL, ALSO_WELL)),
+        Fault("sums", "a program that is not there", "is not there: .*\n0 passed, 1 failed",
+              absent),
+        Fault("sums", "rows of a program that is silent", FAILED,
+              lambda scene: driver_on(wrapped(scene, "silent", "exit 0"), "rows")),
+        Fault("sums", "refusals of a program that is silent", FAILED,
+              lambda scene: driver_on(silent(scene, "refusals"), "refusals")),
+        Fault("sums", "streams of a program that is silent", FAILED,
+              lambda scene: driver_on(silent(scene, "streams"), "streams")),
+    ] + [by_parts(*row) for row in SUMS]
+
+
+def silent(scene: Scene, kind: str) -> Program:
+    """A compiled program that answers nothing, for tests of this kind."""
+    path = os.path.join(scene.folder, "silent-" + kind)
+    with open(path + ".c", "w") as file:
+        file.write(SILENT)
+    subprocess.run([*scene.interposer.compiler, "-o", path, path + ".c"], check=True)
+    return Program(path)
+
+
+def absent(scene: Scene) -> Tally:
+    return driver_on(Program(os.path.join(scene.folder, "absent")), "rows")
+
+
+def driver_on(program: Program, kind: str) -> Tally:
+    """Runs one kind of tests, as anyone does."""
+    command = [sys.executable, os.path.join(TESTS, "run.py"), kind, "--short"]
+    return tally_of(command + ["--program", program.path])
+
+
+def by_parts(name: str, last: str, first: Part, second: Part) -> Fault:
+    """Two parts of `all`, of which one tells a failure, or nothing."""
+    return Fault("sums", name, "^%s$" % last, lambda scene: run_all_of(scene, name, first, second))
+
+
+def run_all_of(scene: Scene, name: str, first: Part, second: Part) -> Tally:
+    """Runs `all` in a folder where its first two parts are others, and the rest has nothing to tell."""
+    top = os.path.join(scene.folder, "all-" + name.replace(" ", "-"))
+    os.makedirs(os.path.join(top, "tests"))
+    shutil.copy(os.path.join(TESTS, "all"), os.path.join(top, "tests"))
+    write_part(os.path.join(top, "rt"), first)
+    write_part(os.path.join(top, "tests", "run.py"), second)
+    for path in LATER:
+        write_part(os.path.join(top, path), Part("0 passed, 0 failed", 0))
+    return tally_of([os.path.join(top, "tests", "all")], PATH=top + ":" + os.environ["PATH"])
+
+
+def write_part(path: str, part: Part) -> None:
+    with open(path, "w") as file:
+        file.write("#!/bin/sh\necho some lines\necho '%s'\nexit %d\n" % part)
+    os.chmod(path, 0o755)
+
+
+def tally_of(command: list[str], **added: str) -> Tally:
+    """One failure where the status tells one."""
+    done = subprocess.run(
+        command, timeout=LIMIT, env={**os.environ, **added},
+        stdout=subprocess.PIPE, stderr=subprocess.STDOUT, text=True,
+    )
+    print(done.stdout)
+    tally = Tally("sums")
+    tally.passed, tally.failed = (1, 0) if done.returncode == 0 else (0, 1)
+    return tally
