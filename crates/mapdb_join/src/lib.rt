@@ -122,6 +122,3 @@ pub use map::JoinMap;
 pub use merge::{Merge, MergeFault};
 pub use part::MergePart;
 pub use runs::{BITS_LIMIT, RUN_LIMIT, Region, Runs};
-
-#[cfg(test)]
-mod tests;

@@ -1,7 +1,7 @@
-//! Tests of the libraries, through what they offer to others.
+//! Tests of the libraries below scripts, through what they offer to others.
 //!
-//! They stand in one crate, so that each library is proved once for all of them. The libraries below `mapdb_replica`, and the
-//! program, have tests of their own.
+//! They stand in one crate, so that each library is proved once for all of them. Those of lines and scripts stand in
+//! `mapdb_script_tests`; `mapdb_fpage` and the program have tests of their own.
 #![tactic(auto)]
 
 #[cfg(test)]
@@ -11,13 +11,13 @@ mod exchange;
 #[cfg(test)]
 mod facts;
 #[cfg(test)]
-mod lines;
+mod join;
 #[cfg(test)]
 mod node;
 #[cfg(test)]
 mod orders;
 #[cfg(test)]
-mod script;
+mod rights;
 #[cfg(test)]
 mod snapshot;
 #[cfg(test)]

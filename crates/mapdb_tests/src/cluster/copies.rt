@@ -10,6 +10,7 @@ use std::fmt::Debug;
 use std::process::Abort;
 
 mod giving;
+mod indexes;
 mod mapping;
 mod rows;
 mod taking;
