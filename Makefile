@@ -11,7 +11,8 @@ BUILT = build
 all: $(ARCHIVE) $(BUILT)/smallest $(BUILT)/two_processors $(BUILT)/mapdb.pc
 
 $(ARCHIVE): crates.txt $(SOURCES)
-	cd crates/mapdb_c && rt lib
+	./prove mapdb_c
+	touch $@
 
 $(BUILT)/mapdb_heap.o: c/mapdb_heap.c
 	mkdir -p $(BUILT)

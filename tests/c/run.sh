@@ -33,7 +33,7 @@ done_with() {
 
 if [ -z "${ARCHIVE:-}" ]; then
     ARCHIVE=$top/crates/mapdb_c/out/libmapdb_c.a
-    try "the archive" sh -c 'cd crates/mapdb_c && rt lib'
+    try "the archive" ./prove mapdb_c
     [ "$failed" -eq 0 ] || done_with
 fi
 # For a relative name of the caller's.

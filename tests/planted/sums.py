@@ -27,8 +27,8 @@ class Part(NamedTuple):
     status: int
 
 
-# The part of `all` behind the first two. That for C does not run where its archive is not there.
-LATER = [os.path.join("tests", "examples.sh")]
+# The parts of `all` behind the first two.
+LATER = [os.path.join("tests", "examples.sh"), os.path.join("tests", "c", "run.sh")]
 
 WELL, ALSO_WELL = Part("3 passed, 0 failed", 0), Part("20 passed, 0 failed", 0)
 
@@ -55,6 +55,8 @@ def sums_faults() -> list[Fault]:
               lambda scene: driver_on(silent(scene, "refusals"), "refusals")),
         Fault("sums", "streams of a program that is silent", FAILED,
               lambda scene: driver_on(silent(scene, "streams"), "streams")),
+        Fault("sums", "an archive that is not built", "^23 passed, 1 failed$",
+              lambda scene: run_all_of(scene, "no-archive", WELL, ALSO_WELL, Part("", 1))),
     ] + [by_parts(*row) for row in SUMS]
 
 
@@ -82,12 +84,19 @@ def by_parts(name: str, last: str, first: Part, second: Part) -> Fault:
     return Fault("sums", name, "^%s$" % last, lambda scene: run_all_of(scene, name, first, second))
 
 
-def run_all_of(scene: Scene, name: str, first: Part, second: Part) -> Tally:
-    """Runs `all` in a folder where its first two parts are others, and the rest has nothing to tell."""
+def run_all_of(
+    scene: Scene, name: str, first: Part, second: Part, archive: Part = Part("", 0)
+) -> Tally:
+    """Runs `all` in a folder where its first two parts and the builder of the archive are others,
+    and the rest has nothing to tell."""
     top = os.path.join(scene.folder, "all-" + name.replace(" ", "-"))
-    os.makedirs(os.path.join(top, "tests"))
+    for folder in ("crates", os.path.join("tests", "c")):
+        os.makedirs(os.path.join(top, folder))
+    for file in ("crates.txt", "HANDLES"):
+        open(os.path.join(top, file), "w").close()
     shutil.copy(os.path.join(TESTS, "all"), os.path.join(top, "tests"))
     write_part(os.path.join(top, "rt"), first)
+    write_part(os.path.join(top, "prove"), archive)
     write_part(os.path.join(top, "tests", "run.py"), second)
     for path in LATER:
         write_part(os.path.join(top, path), Part("0 passed, 0 failed", 0))
