@@ -1,20 +1,27 @@
 """Random scripts by seed: the program's output and status are those of the model."""
 
 import time
-from concurrent.futures import ProcessPoolExecutor
-from typing import Iterator, NamedTuple, Optional
+from collections import deque
+from concurrent.futures import Future, ProcessPoolExecutor
+from typing import Iterator, NamedTuple, Optional, Union
 
 from driver.program import Outcome, Program, difference
+from driver.quick import QuickProgram
 from driver.tally import Met, Tally
 from maker.scripts import Case, case_of
 from model.script import Told, run_script
 from model.threads import run_threads
 
 BATCH = 50
-LIMIT = 120
+RANGE = 50000
+# A run at the lowest priority may wait long for a processor.
+LIMIT = 1000
 SHOWN_LINES = 60
 SHOWN_BYTES = 1000
 ERRORS_OF_COUNT = b"run fault count\n"
+
+
+AnyProgram = Union[Program, QuickProgram]
 
 
 class Finding(NamedTuple):
@@ -25,11 +32,19 @@ class Finding(NamedTuple):
     why: str
 
 
+class Batch(NamedTuple):
+    """What was met in the scripts of some seeds: how many lines they have, and where program and
+    model differ."""
+
+    lines: int
+    findings: list[Finding]
+
+
 def told_by_model(command: str, text: bytes) -> Told:
     return run_threads(text) if command == "threads" else run_script(text)
 
 
-def why_different(program: Program, command: str, text: bytes) -> Optional[str]:
+def why_different(program: AnyProgram, command: str, text: bytes) -> Optional[str]:
     """How program and model differ on a script, or None."""
     found, wanted = program.run([command], text, LIMIT), told_by_model(command, text)
     errors = ERRORS_OF_COUNT if command == "threads" and wanted == Told(b"", 1) else b""
@@ -37,15 +52,16 @@ def why_different(program: Program, command: str, text: bytes) -> Optional[str]:
     return None if found == outcome else difference(outcome, found)
 
 
-def run_batch(path: str, seeds: range, may_be_great: bool) -> list[Finding]:
+def run_batch(path: str, seeds: range, may_be_great: bool) -> Batch:
     """Runs the scripts of these seeds."""
-    program, findings = Program(path), []
+    program, lines, findings = QuickProgram(path), 0, []
     for seed in seeds:
         case = case_of(seed, may_be_great)
+        lines += case.text.count(b"\n")
         why = why_different(program, case.command, case.text)
         if why is not None:
             findings.append(Finding(seed, case, why))
-    return findings
+    return Batch(lines, findings)
 
 
 def reduced(program: Program, case: Case) -> bytes:
@@ -110,28 +126,45 @@ def fuzz(
     may_be_great: bool = True,
 ) -> Tally:
     """Runs `count` scripts from a seed on, or as many as there are minutes for."""
-    tally, begun = Tally("fuzz"), time.monotonic()
-    end = None if minutes is None else begun + 60 * minutes
-    last = seed
+    met = Progress(program, seed)
+    end = None if minutes is None else met.begun + 60 * minutes
     with ProcessPoolExecutor(jobs) as pool:
-        waiting, source = [], batches(seed, count, end)
-        for seeds in source:
+        waiting = deque()
+        for seeds in batches(seed, count, end):
             waiting.append((seeds, pool.submit(run_batch, program.path, seeds, may_be_great)))
-            last = seeds.stop
             if len(waiting) >= 2 * jobs:
-                finish(tally, program, *waiting.pop(0))
+                met.finish(*waiting.popleft())
         for seeds, batch in waiting:
-            finish(tally, program, seeds, batch)
-    return tally.end(
-        "seeds %d to %d, in %d seconds with %d processes" % (
-            seed, last - 1, time.monotonic() - begun, jobs
+            met.finish(seeds, batch)
+    return met.tally.end("%s with %d processes" % (met.told(), jobs))
+
+
+class Progress:
+    """What was run from a seed on, told after each range of seeds."""
+
+    def __init__(self, program: Program, seed: int):
+        self.program = program
+        self.first = self.next = seed
+        self.lines = 0
+        self.begun = time.monotonic()
+        self.tally = Tally("fuzz")
+
+    def finish(self, seeds: range, batch: Future) -> None:
+        """Counts the scripts of a batch, which comes behind all that were counted."""
+        lines, findings = batch.result()
+        self.next = seeds.stop
+        self.lines += lines
+        self.tally.passed += len(seeds) - len(findings)
+        for finding in findings:
+            tell(self.tally, self.program, finding)
+        if (self.next - self.first) % RANGE == 0:
+            print("fuzz: %s, %d differ" % (self.told(), self.tally.failed), flush=True)
+
+    def told(self) -> str:
+        return "seeds %d to %d: %d scripts of %d lines, in %d seconds" % (
+            self.first,
+            self.next - 1,
+            self.next - self.first,
+            self.lines,
+            time.monotonic() - self.begun,
         )
-    )
-
-
-def finish(tally: Tally, program: Program, seeds: range, batch) -> None:
-    """Counts the scripts of a batch."""
-    findings = batch.result()
-    tally.passed += len(seeds) - len(findings)
-    for finding in findings:
-        tell(tally, program, finding)

@@ -9,6 +9,7 @@ from maker.worlds import World
 from model.script import run_script
 
 LONGEST_LINE = 8388608
+MOST_LINES = 400
 
 
 class Case(NamedTuple):
@@ -46,6 +47,15 @@ def over(kinds: list, wide: bool = False) -> Callable[[Random], bytes]:
 
 def either_width(random: Random, kinds: list) -> list[str]:
     return lines.lines_over(World(random, random.random() < 0.4), kinds)
+
+
+def of_many_lines(random: Random) -> bytes:
+    """Some hundred lines. The tree is asked where places are small."""
+    kinds = random.choice([lines.COMMANDS, lines.EXCHANGE, lines.LOADS])
+    wide = random.random() < 0.3
+    world = World(random, wide, alone=kinds is not lines.EXCHANGE)
+    world.asks_tree = not wide
+    return joined(random, lines.lines_over(world, kinds, MOST_LINES))
 
 
 def hostile_words(random: Random) -> bytes:
@@ -213,5 +223,6 @@ KINDS = {
     "long lines": (long_lines, 0.5),
     "longest lines": (longest_lines, 0.02),
     "nearly full": (nearly_full, 0.05),
+    "many lines": (of_many_lines, 1),
 }
 GREAT = {"longest lines", "nearly full"}

@@ -56,7 +56,7 @@ LINES = [
          "if record.parent.number >= record.name.number:",
          "if record.parent.number > record.name.number:", 4440),
     Line("facts", "copies are the same whatever is revoked",
-         "and self.all_cut_runs() == other.all_cut_runs())", ")", 1158),
+         "and self.all_cut_runs() == other.all_cut_runs())", ")", 1207),
     Line("rights", "a space that has ended has rights", "or record.space in facts.ended or not",
          "or not", 1628),
     Line("rights", "a record has what its parent lacks",
@@ -89,7 +89,7 @@ LINES = [
     Line("tree", "an unmap without flush is one with it", "in below if flush else below[1:]:",
          "in below:", 1369),
     Line("threads", "a refusal ends a processor's commands", "            continue",
-         "            break", 2593),
+         "            break", 2619),
 ]
 
 
