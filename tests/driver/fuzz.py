@@ -15,7 +15,7 @@ from model.threads import run_threads
 BATCH = 50
 RANGE = 50000
 # A run at the lowest priority may wait long for a processor.
-LIMIT = 1000
+LIMIT = 300
 SHOWN_LINES = 60
 SHOWN_BYTES = 1000
 ERRORS_OF_COUNT = b"run fault count\n"
