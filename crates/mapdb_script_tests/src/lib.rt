@@ -6,4 +6,6 @@
 #[cfg(test)]
 mod lines;
 #[cfg(test)]
+mod orders;
+#[cfg(test)]
 mod script;

@@ -40,21 +40,20 @@ fn add(facts: &mut Facts, index: &mut RightsIndex, op: Op) -> Result<(), Fail>
     Ok(())
 }
 
-/// Adds an operation, which may be added, and asserts what record 2 has at a page then.
+/// Adds an operation, and asserts what record 2 has at a page then.
 fn follow(
     rt: &impl Abort,
     facts: &mut Facts,
     index: &mut RightsIndex,
     op: Op,
     wanted: Option<(u64, u8)>,
-)
+) -> Result<(), Fail>
     requires { StandsFor index.old (state_of_facts facts.old) }
-    ensures { StandsFor index.new (state_of_facts facts.new) }
+    ensures { OnOk result (StandsFor index.new (state_of_facts facts.new)) }
 {
-    if add(facts, index, op).is_err() {
-        panic!(rt; "the operation is not followed");
-    }
+    add(facts, index, op)?;
     expect(rt, pair(index, id(2), 0x30), wanted);
+    Ok(())
 }
 
 #[test]
@@ -64,9 +63,9 @@ fn operations_are_followed(rt: HostRuntime) -> Result<(), Fail> {
     let end = Op::Closed(Space::first(1));
     let mut facts = Facts::new(rt.alloc());
     let mut index = RightsIndex::new(rt.alloc());
-    follow(&rt, &mut facts, &mut index, child, None);
-    follow(&rt, &mut facts, &mut index, parent, Some((0x10, 6)));
-    follow(&rt, &mut facts, &mut index, end, None);
+    follow(&rt, &mut facts, &mut index, child, None)?;
+    follow(&rt, &mut facts, &mut index, parent, Some((0x10, 6)))?;
+    follow(&rt, &mut facts, &mut index, end, None)?;
     expect(&rt, index.is_absent(), false);
     Ok(())
 }

@@ -1,6 +1,7 @@
 //! Scripts whose copies tell each other operations, and what they write.
 
 use super::rows::writes;
+use crate::orders::ORDERS;
 use mapdb_script::{FromRead, ToWrite, run};
 use std::test::Fail;
 
@@ -25,21 +26,9 @@ const FOUR_SENT: &str = "records 1.0\n\
     message 2 1\n\
     message 3 1\n";
 
-/// The order of four messages with this number, which is one of 24: each place in turn gets one of those that are left.
-fn order(number: usize) -> [u32; 4]
-    requires { number < 24 }
-{
-    let mut order = [0, 1, 2, 3];
-    order.swap(0, number / 6);
-    order.swap(1, 1 + number / 2 % 3);
-    order.swap(2, 2 + number % 2);
-    order
-}
-
 #[test]
 fn every_delivery_order(rt: HostRuntime) -> Result<(), Fail> {
-    for number in 0..24 {
-        let [first, second, third, last] = order(number);
+    for [first, second, third, last] in ORDERS {
         let script = format!(in rt.alloc();
             "{FOUR_MESSAGES}\
             deliver {first} 1\n\
