@@ -97,6 +97,7 @@ def run_all_of(
     shutil.copy(os.path.join(TESTS, "all"), os.path.join(top, "tests"))
     write_part(os.path.join(top, "rt"), first)
     write_part(os.path.join(top, "prove"), archive)
+    write_script(os.path.join(top, "nproc"), "echo 4")
     write_part(os.path.join(top, "tests", "run.py"), second)
     for path in LATER:
         write_part(os.path.join(top, path), Part("0 passed, 0 failed", 0))
@@ -104,8 +105,12 @@ def run_all_of(
 
 
 def write_part(path: str, part: Part) -> None:
+    write_script(path, "echo some lines\necho '%s'\nexit %d" % part)
+
+
+def write_script(path: str, text: str) -> None:
     with open(path, "w") as file:
-        file.write("#!/bin/sh\necho some lines\necho '%s'\nexit %d\n" % part)
+        file.write("#!/bin/sh\n%s\n" % text)
     os.chmod(path, 0o755)
 
 
