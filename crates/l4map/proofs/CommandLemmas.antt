@@ -50,6 +50,11 @@ pub shape_with_rule : (old new : Command) (a : Arg) (rule : Rule) → AddsArg ol
     → shape_of new ≡ (with_rule (app_of old) rule).top
 shape_with_rule old new a rule added plain is_rule = ap (λ (app : App). app.top) (added.shape plain ∙ ap (with_rule (app_of old)) is_rule)
 
+-- the same for the whole command line
+pub app_with_rule : (old new : Command) (a : Arg) (rule : Rule) → AddsArg old a new → a.global ≡ false → rule_of a ≡ rule
+    → app_of new ≡ with_rule (app_of old) rule
+app_with_rule old new a rule added plain is_rule = added.shape plain ∙ ap (with_rule (app_of old)) is_rule
+
 -- the first value of an argument, from the rows
 pub first_value_rows : (f : Found) (id : Text) → first_value f id ≡ first_of id (rows_of f)
 first_value_rows f id = first_value-rows f id

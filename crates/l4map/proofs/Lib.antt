@@ -1,3 +1,4 @@
 pub mod CommandLemmas
 pub mod JobLemmas
 pub mod ReportLemmas
+pub mod SnapshotLemmas

@@ -1,5 +1,6 @@
 -- The statuses of the program, and what it tells on the errors.
-use Rattle.std.specs.Prelude.{◌≡◌, ◌⊎◌, ◌↔◌, ℕ, List, [], Bool, true, false, Option, Result, Ok, Err, codes}
+use Rattle.std.specs.Prelude.{◌≡◌, ◌⊎◌, ◌↔◌, ℕ, List, [], Bool, true, false, Option, Result, Ok}
+use Rattle.std.specs.Prelude.{Err, codes}
 use Rattle.std.specs.Io.KnownBytes.{Appends}
 use Rattle.mapdb_lines.specs.Fronts.{BeginsWith}
 use Rattle.mapdb_lines.specs.declared.fault.Summary.{Summary}
@@ -30,10 +31,12 @@ message_of (Err fault.Read) = codes "l4map: read failed\n"
 message_of (Err fault.Write) = codes "l4map: write failed\n"
 message_of (Err fault.Memory) = memory_message
 
--- A writer that had written `old` has now written `new`, and it was told a message: all of it, or a front where it failed.
+-- A writer that had written `old` has now written `new`, and it was told a message: all of it, or a
+-- front where it failed.
 abbrev pub IsTold : Option (List ℕ) → Option (List ℕ) → Bool → List ℕ → Type 0
 IsTold old new has_failed message =
-    (text : List ℕ) × Appends old new text × BeginsWith message text × (has_failed ≡ false → text ≡ message)
+    (text : List ℕ) × Appends old new text × BeginsWith message text
+    × (has_failed ≡ false → text ≡ message)
 
 -- Memory was wanted, which is told.
 abbrev pub WantsMemory : ℕ → Option (List ℕ) → Option (List ℕ) → Bool → Type 0
@@ -42,9 +45,11 @@ WantsMemory status old new has_failed = (status ≡ 4) × IsTold old new has_fai
 -- Words were refused, which a text of clap's tells, or there was no memory to refuse them.
 abbrev pub Refuses : ℕ → Option (List ℕ) → Option (List ℕ) → Bool → Type 0
 Refuses status old new has_failed =
-    ((status ≡ 2) × ((text : List ℕ) × IsTold old new has_failed text)) ⊎ WantsMemory status old new has_failed
+    ((status ≡ 2) × ((text : List ℕ) × IsTold old new has_failed text))
+    ⊎ WantsMemory status old new has_failed
 
 -- A run blames the reader or the writer exactly where that one has failed.
 abbrev pub BlamesFailed : Result Summary ScriptFault → Bool → Bool → Type 0
 BlamesFailed outcome reader_failed writer_failed =
-    ((outcome ≡ Err fault.Read) ↔ (reader_failed ≡ true)) × ((outcome ≡ Err fault.Write) ↔ (writer_failed ≡ true))
+    ((outcome ≡ Err fault.Read) ↔ (reader_failed ≡ true))
+    × ((outcome ≡ Err fault.Write) ↔ (writer_failed ≡ true))

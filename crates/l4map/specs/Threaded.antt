@@ -1,5 +1,6 @@
 -- What a script in threads writes, and how it ends.
-use Rattle.std.specs.Prelude.{◌≡◌, ◌⊎◌, ◌↔◌, ℕ, Bool, true, List, [], ◌++◌, Result, Ok, Err, codes, decimal, flat_map, length}
+use Rattle.std.specs.Prelude.{◌≡◌, ◌⊎◌, ◌↔◌, ℕ, Bool, true, List, [], ◌++◌, Result, Ok, Err, codes}
+use Rattle.std.specs.Prelude.{decimal, flat_map, length}
 use Rattle.mapdb_replica.specs.declared.commands.Command.{Command}
 use Rattle.mapdb_exchange.specs.Counts.{IsCount}
 use Rattle.mapdb_exchange.specs.Reports.{AreParts, HoldSame}
@@ -19,7 +20,8 @@ use Rattle.l4map.specs.declared.threaded.ThreadsFault.TheVariants.{Run, Script}
 -- what is told of a processor: how many commands it had, and how many operations its copy issued
 abbrev pub processor_text : Part → List ℕ
 processor_text part = codes "processor " ++ (decimal part.processor
-    ++ (codes " commands " ++ (decimal part.commands ++ (codes " issued " ++ decimal (length part.history.copy.own)))))
+    ++ (codes " commands " ++ (decimal part.commands
+    ++ (codes " issued " ++ decimal (length part.history.copy.own)))))
 
 abbrev pub processor_line : Part → List ℕ
 processor_line part = reply_line (processor_text part)
@@ -31,12 +33,14 @@ report_text parts = flat_map processor_line parts ++ reply_line (same_text true)
 -- the text of a report on the scripts of the input, over links of this capacity
 abbrev pub IsReport : ℕ → List ℕ → List ℕ → Type 0
 IsReport capacity input text =
-    (scripts : List (List Command)) × (parts : List Part) × (scripts_of input ≡ Ok scripts) × IsCount (length scripts) capacity
+    (scripts : List (List Command)) × (parts : List Part) × (scripts_of input ≡ Ok scripts)
+    × IsCount (length scripts) capacity
     × AreParts scripts parts × HoldSame parts × (text ≡ report_text parts)
 
 -- the line that tells the fault of the input's first faulty line
 abbrev pub IsFaultLine : List ℕ → List ℕ → Type 0
-IsFaultLine input text = (number : ℕ) × (f : _) × (scripts_of input ≡ Err (number, f)) × (text ≡ fault_line number f)
+IsFaultLine input text = (number : ℕ) × (f : _) × (scripts_of input ≡ Err (number, f))
+    × (text ≡ fault_line number f)
 
 -- the faults of a reader, of a writer, and of a want of memory
 abbrev pub read_failed : ThreadsFault
@@ -48,7 +52,8 @@ write_failed = Script script.Write
 abbrev pub wants_memory : ThreadsFault
 wants_memory = Script script.Memory
 
--- What is written of a text: all of it; a front of it where the writer failed; or nothing where memory was wanted.
+-- What is written of a text: all of it; a front of it where the writer failed; or nothing where
+-- memory was wanted.
 abbrev pub IsWritten : Result (Unit {0}) ThreadsFault → List ℕ → List ℕ → Type 0
 IsWritten (Ok done) whole front = front ≡ whole
 IsWritten (Err (Script script.Write)) whole front = BeginsWith whole front
@@ -57,9 +62,10 @@ IsWritten (Err (Script script.Read)) whole front = ⊥
 IsWritten (Err (Script (script.Line number f))) whole front = ⊥
 IsWritten (Err (Run why)) whole front = ⊥
 
--- What was written for an input of which this was read; `Over` says that the reader is over. At a faulty line the reader is
--- over, or no further bytes would change the answer. Nothing is written where the exchange gives no report; the count is at fault
--- exactly where there are none or too many scripts.
+-- What was written for an input of which this was read; `Over` says that the reader is over. At a
+-- faulty line the reader is over, or no further bytes would change the answer. Nothing is written
+-- where the exchange gives no report; the count is at fault exactly where there are none or too
+-- many scripts.
 abbrev pub TellsThreads : ℕ → Result (Unit {0}) ThreadsFault → List ℕ → List ℕ → Type 0 → Type 0
 TellsThreads capacity (Ok done) input text Over = Over × IsReport capacity input text
 TellsThreads capacity (Err (Script (script.Line number f))) input text Over =
@@ -67,16 +73,19 @@ TellsThreads capacity (Err (Script (script.Line number f))) input text Over =
     × (Over ⊎ ((more : List ℕ) → scripts_of (input ++ more) ≡ scripts_of input))
 TellsThreads capacity (Err (Script script.Read)) input text Over = text ≡ []
 TellsThreads capacity (Err (Script script.Write)) input text Over =
-    (whole : List ℕ) × (IsReport capacity input whole ⊎ IsFaultLine input whole) × BeginsWith whole text
+    (whole : List ℕ) × (IsReport capacity input whole ⊎ IsFaultLine input whole)
+    × BeginsWith whole text
 TellsThreads capacity (Err (Script script.Memory)) input text Over = text ≡ []
 TellsThreads capacity (Err (Run why)) input text Over =
-    Over × ((scripts : List (List Command)) × (scripts_of input ≡ Ok scripts) × (why ≡ run.BadCount ↔ (IsCount (length scripts) capacity → ⊥)))
+    Over × ((scripts : List (List Command)) × (scripts_of input ≡ Ok scripts)
+    × (why ≡ run.BadCount ↔ (IsCount (length scripts) capacity → ⊥)))
     × (text ≡ [])
 
 -- The reader or the writer is blamed exactly where that one has failed.
 abbrev pub BlamesThreads : Result (Unit {0}) ThreadsFault → Bool → Bool → Type 0
 BlamesThreads outcome reader_failed writer_failed =
-    ((outcome ≡ Err read_failed) ↔ (reader_failed ≡ true)) × ((outcome ≡ Err write_failed) ↔ (writer_failed ≡ true))
+    ((outcome ≡ Err read_failed) ↔ (reader_failed ≡ true))
+    × ((outcome ≡ Err write_failed) ↔ (writer_failed ≡ true))
 
 -- the status of a run that gave no report
 abbrev pub run_status : RunFault → ℕ

@@ -1,12 +1,18 @@
-//! What the program stands in: the words of its command line, where its messages go, and the status that it ends with.
+//! What the program stands in: the words of its command line, where its messages go, and the status
+//! that it ends with.
 
 ghost use Rattle.std.specs.Prelude.{◌≡◌, ◌⊎◌, ℕ, List, Result, false};
 ghost use Rattle.std.specs.Io.KnownBytes.{Appends, Consumes};
 ghost use Rattle.mapdb_lines.specs.declared.fault.ScriptFault.{ScriptFault};
 ghost use Rattle.mapdb_lines.specs.declared.fault.Summary.{Summary};
-ghost use Rattle.mapdb_script.specs.Run.{IsOver, Tells};
-ghost use Rattle.l4map.specs.Threaded.{BlamesThreads, TellsThreads, threads_message, threads_status};
+ghost use Rattle.mapdb_script.specs.Run.{HasEnded, TellsRun};
+ghost use Rattle.l4map.specs.Threaded.{BlamesThreads, TellsThreads, threads_message};
+ghost use Rattle.l4map.specs.Threaded.{threads_status};
 ghost use Rattle.l4map.specs.declared.threaded.ThreadsFault.{ThreadsFault};
+ghost use Rattle.l4map.specs.Snapshots.{BlamesSnapshot, TellsSnapshot, snapshot_message};
+ghost use Rattle.l4map.specs.Snapshots.{snapshot_status};
+ghost use Rattle.l4map.specs.declared.snapshots.Asked.{Asked};
+ghost use Rattle.l4map.specs.declared.snapshots.TellFault.{TellFault};
 ghost use Rattle.l4map.specs.Statuses.{BlamesFailed, IsTold, Refuses, message_of, status_of};
 
 use crate::served::{refuse_unread, serve};
@@ -19,12 +25,14 @@ use std::sync::Wait;
 use std::thread::Threads;
 use std::{env, io};
 
-/// A writer that messages may go to: standard error. Standard output is none, so that no message can stand among the replies.
+/// A writer that messages may go to: standard error. Standard output is none, so that no message
+/// can stand among the replies.
 pub trait ErrorSink: Sink {}
 
 impl ErrorSink for ToWrite<Stderr> {}
 
-/// The status that the program ends with. Only [`start`] gives one, so that `main` cannot end with another.
+/// The status that the program ends with. Only [`start`] gives one, so that `main` cannot end with
+/// another.
 #[derive(Drop)]
 pub struct Status {
     code: u8,
@@ -41,9 +49,10 @@ fn words_of(environment: &(impl Env + Alloc<A = Global>)) -> io::Result<Vec<Stri
     Ok(env::args(environment)?.collect(environment.alloc())?)
 }
 
-/// Does what the words of the command line ask for, and answers the status, as [`serve`] says. Where the words cannot be had, nothing
-/// is read or written, and the status is 4 where memory was wanted, else 2, since one is no UTF-8. Which words there are is the
-/// environment's. It waits only for `threads`.
+/// Does what the words of the command line ask for, and answers the status, as [`serve`] says.
+/// Where the words cannot be had, nothing is read or written, and the status is 4 where memory was
+/// wanted, else 2, since one is no UTF-8. Which words there are is the environment's. It waits only
+/// for `threads`.
 pub fn start<
     T: AllocGlobal + Threads + Wait + Sync,
     V: Env + AllocGlobal,
@@ -54,21 +63,34 @@ pub fn start<
     requires reader_works { R.has_failed reader.old ≡ false }
     requires writer_works { W.has_failed writer.old ≡ false }
     ensures { ((reader.new ≡ reader.old) × (writer.new ≡ writer.old)
-        × Refuses result.code (E.written errors.old) (E.written errors.new) (E.has_failed errors.new))
+        × Refuses result.code (E.written errors.old) (E.written errors.new)
+        (E.has_failed errors.new))
         ⊎ (((outcome : Result Summary ScriptFault) × (input text : List ℕ)
         × Consumes (R.left reader.old) (R.left reader.new) input
         × Appends (W.written writer.old) (W.written writer.new) text
-        × Tells outcome input text (IsOver (R.has_ended reader.new) (R.left reader.new))
+        × TellsRun outcome input text (HasEnded (R.has_ended reader.new) (R.left reader.new))
         × BlamesFailed outcome (R.has_failed reader.new) (W.has_failed writer.new)
         × (result.code ≡ status_of outcome)
-        × IsTold (E.written errors.old) (E.written errors.new) (E.has_failed errors.new) (message_of outcome))
+        × IsTold (E.written errors.old) (E.written errors.new) (E.has_failed errors.new)
+        (message_of outcome))
         ⊎ ((capacity : ℕ) × (outcome : Result (Unit {0}) ThreadsFault) × (input text : List ℕ)
         × Consumes (R.left reader.old) (R.left reader.new) input
         × Appends (W.written writer.old) (W.written writer.new) text
-        × TellsThreads capacity outcome input text (IsOver (R.has_ended reader.new) (R.left reader.new))
+        × TellsThreads capacity outcome input text
+        (HasEnded (R.has_ended reader.new) (R.left reader.new))
         × BlamesThreads outcome (R.has_failed reader.new) (W.has_failed writer.new)
         × (result.code ≡ threads_status outcome)
-        × IsTold (E.written errors.old) (E.written errors.new) (E.has_failed errors.new) (threads_message outcome))) }
+        × IsTold (E.written errors.old) (E.written errors.new) (E.has_failed errors.new)
+        (threads_message outcome))
+        ⊎ ((asked : Asked) × (outcome : Result (Unit {0}) TellFault) × (input text : List ℕ)
+        × Consumes (R.left reader.old) (R.left reader.new) input
+        × Appends (W.written writer.old) (W.written writer.new) text
+        × TellsSnapshot asked outcome input text
+        (HasEnded (R.has_ended reader.new) (R.left reader.new))
+        × BlamesSnapshot outcome (R.has_failed reader.new) (W.has_failed writer.new)
+        × (result.code ≡ snapshot_status outcome)
+        × IsTold (E.written errors.old) (E.written errors.new) (E.has_failed errors.new)
+        (snapshot_message outcome))) }
 {
     let code = match words_of(environment) {
         Ok(words) => serve(rt, words.as_slice(), reader, writer, errors),

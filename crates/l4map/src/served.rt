@@ -4,18 +4,28 @@ ghost use Rattle.std.specs.Prelude.{◌≡◌, ◌≢◌, ◌⊎◌, ℕ, List, 
 ghost use Rattle.std.specs.Io.KnownBytes.{Appends, Consumes};
 ghost use Rattle.std.specs.declared.io.ErrorKind.TheVariants as io_kind;
 ghost use Rattle.clap.specs.Words.{kind_of};
-ghost use Rattle.mapdb_script.specs.Run.{IsOver, Tells};
+ghost use Rattle.mapdb_script.specs.Run.{HasEnded, TellsRun};
 ghost use Rattle.l4map.specs.Commands.{job_in};
-ghost use Rattle.l4map.specs.Threaded.{BlamesThreads, TellsThreads, threads_message, threads_status};
+ghost use Rattle.l4map.specs.Threaded.{BlamesThreads, TellsThreads, threads_message};
+ghost use Rattle.l4map.specs.Threaded.{threads_status};
 ghost use Rattle.l4map.specs.declared.threaded.ThreadsFault.{ThreadsFault};
-ghost use Rattle.l4map.specs.Statuses.{BlamesFailed, IsTold, Refuses, WantsMemory, message_of, status_of, words_message};
+ghost use Rattle.l4map.specs.Snapshots.{BlamesSnapshot, TellsSnapshot, snapshot_message};
+ghost use Rattle.l4map.specs.Snapshots.{snapshot_status};
+ghost use Rattle.l4map.specs.declared.snapshots.Asked.{Asked};
+ghost use Rattle.l4map.specs.declared.snapshots.TellFault.{TellFault};
+ghost use Rattle.l4map.specs.Statuses.{BlamesFailed, IsTold, Refuses, WantsMemory, message_of};
+ghost use Rattle.l4map.specs.Statuses.{status_of, words_message};
 
 use crate::commands::{Job, job_of};
-use crate::messages::{OUT_OF_MEMORY, WORDS_ARE_NO_TEXT, message, tell, threads_message};
+use crate::messages::{
+    OUT_OF_MEMORY, WORDS_ARE_NO_TEXT, message, snapshot_message, tell, threads_message,
+};
+use crate::snapshots::{Asked, TellFault, tell_snapshot};
 use crate::threaded::{ThreadsFault, run_threads};
 use clap::Error;
 use clap::error::ErrorKind;
 use mapdb_exchange::RunFault;
+use mapdb_picture::LoadFault;
 use mapdb_script::{ScriptFault, Sink, Source, Summary, run};
 use std::alloc::Global;
 use std::convert::AsStr;
@@ -37,7 +47,8 @@ fn status(outcome: &Result<Summary, ScriptFault>) -> u8
 
 /// Tells that memory was wanted, and answers the status.
 fn want_memory<E: Sink>(errors: &mut E) -> u8
-    ensures { WantsMemory result (E.written errors.old) (E.written errors.new) (E.has_failed errors.new) }
+    ensures { WantsMemory result (E.written errors.old) (E.written errors.new)
+        (E.has_failed errors.new) }
 {
     tell(errors, OUT_OF_MEMORY);
     4
@@ -47,7 +58,8 @@ fn want_memory<E: Sink>(errors: &mut E) -> u8
 fn refuse<E: Sink>(alloc: Global, error: &Error, errors: &mut E) -> u8
     ensures memory { kind_of error.now ≡ ErrorKind.OutOfMemory →
         WantsMemory result (E.written errors.old) (E.written errors.new) (E.has_failed errors.new) }
-    ensures told { Refuses result (E.written errors.old) (E.written errors.new) (E.has_failed errors.new) }
+    ensures told { Refuses result (E.written errors.old) (E.written errors.new)
+        (E.has_failed errors.new) }
 {
     if let ErrorKind::OutOfMemory = error.kind() {
         return want_memory(errors);
@@ -61,14 +73,16 @@ fn refuse<E: Sink>(alloc: Global, error: &Error, errors: &mut E) -> u8
     }
 }
 
-/// Tells why the words of the command line could not be had, and answers the status: 4 where memory was wanted, else 2, since
-/// a word is no UTF-8.
+/// Tells why the words of the command line could not be had, and answers the status: 4 where memory
+/// was wanted, else 2, since a word is no UTF-8.
 pub fn refuse_unread<E: Sink>(kind: io::ErrorKind, errors: &mut E) -> u8
     ensures memory { kind ≡ io_kind.OutOfMemory →
         WantsMemory result (E.written errors.old) (E.written errors.new) (E.has_failed errors.new) }
     ensures words { kind ≢ io_kind.OutOfMemory → (result ≡ 2)
-        × IsTold (E.written errors.old) (E.written errors.new) (E.has_failed errors.new) words_message }
-    ensures told { Refuses result (E.written errors.old) (E.written errors.new) (E.has_failed errors.new) }
+        × IsTold (E.written errors.old) (E.written errors.new) (E.has_failed errors.new)
+        words_message }
+    ensures told { Refuses result (E.written errors.old) (E.written errors.new)
+        (E.has_failed errors.new) }
 {
     if let io::ErrorKind::OutOfMemory = kind {
         return want_memory(errors);
@@ -102,10 +116,11 @@ fn serve_script<R: Source, W: Sink, E: Sink>(
     ensures { (outcome : Result Summary ScriptFault) × (input text : List ℕ)
         × Consumes (R.left reader.old) (R.left reader.new) input
         × Appends (W.written writer.old) (W.written writer.new) text
-        × Tells outcome input text (IsOver (R.has_ended reader.new) (R.left reader.new))
+        × TellsRun outcome input text (HasEnded (R.has_ended reader.new) (R.left reader.new))
         × BlamesFailed outcome (R.has_failed reader.new) (W.has_failed writer.new)
         × (result ≡ status_of outcome)
-        × IsTold (E.written errors.old) (E.written errors.new) (E.has_failed errors.new) (message_of outcome) }
+        × IsTold (E.written errors.old) (E.written errors.new) (E.has_failed errors.new)
+        (message_of outcome) }
 {
     let outcome = run(alloc, reader, writer);
     tell(errors, message(&outcome));
@@ -126,20 +141,60 @@ fn serve_threads<T: Threads + Wait + Sync, R: Source, W: Sink, E: Sink>(
     ensures { (outcome : Result (Unit {0}) ThreadsFault) × (input text : List ℕ)
         × Consumes (R.left reader.old) (R.left reader.new) input
         × Appends (W.written writer.old) (W.written writer.new) text
-        × TellsThreads capacity outcome input text (IsOver (R.has_ended reader.new) (R.left reader.new))
+        × TellsThreads capacity outcome input text
+        (HasEnded (R.has_ended reader.new) (R.left reader.new))
         × BlamesThreads outcome (R.has_failed reader.new) (W.has_failed writer.new)
         × (result ≡ threads_status outcome)
-        × IsTold (E.written errors.old) (E.written errors.new) (E.has_failed errors.new) (threads_message outcome) }
+        × IsTold (E.written errors.old) (E.written errors.new) (E.has_failed errors.new)
+        (threads_message outcome) }
 {
     let outcome = run_threads(rt, alloc, capacity, reader, writer);
     tell(errors, threads_message(&outcome));
     threads_status(&outcome)
 }
 
-/// Does what the words ask for, and answers the status: 0 where all is done, 1 where a line of the script is at fault, which
-/// the writer is told, or where a run in threads gave no report, 2 where clap refuses the words or they call for help, 3
-/// where the reader or the writer failed, and 4 where memory was wanted. The errors are told why, but of a faulty line; that
-/// they fail changes nothing. It waits only for `threads`.
+/// The status where a snapshot was read.
+fn snapshot_status(outcome: &Result<(), TellFault>) -> u8
+    ensures { result ≡ snapshot_status outcome.now }
+{
+    match outcome {
+        Ok(()) => 0,
+        Err(TellFault::Read | TellFault::Write) => 3,
+        Err(TellFault::Load(LoadFault::Memory)) => 4,
+        Err(TellFault::TooLong | TellFault::Load(_)) => 1,
+    }
+}
+
+/// Tells what is asked of a snapshot, tells the errors how that ended, and answers the status.
+fn serve_snapshot<R: Source, W: Sink, E: Sink>(
+    alloc: Global,
+    asked: Asked,
+    reader: &mut R,
+    writer: &mut W,
+    errors: &mut E,
+) -> u8
+    requires reader_works { R.has_failed reader.old ≡ false }
+    requires writer_works { W.has_failed writer.old ≡ false }
+    ensures { (outcome : Result (Unit {0}) TellFault) × (input text : List ℕ)
+        × Consumes (R.left reader.old) (R.left reader.new) input
+        × Appends (W.written writer.old) (W.written writer.new) text
+        × TellsSnapshot asked outcome input text
+        (HasEnded (R.has_ended reader.new) (R.left reader.new))
+        × BlamesSnapshot outcome (R.has_failed reader.new) (W.has_failed writer.new)
+        × (result ≡ snapshot_status outcome)
+        × IsTold (E.written errors.old) (E.written errors.new) (E.has_failed errors.new)
+        (snapshot_message outcome) }
+{
+    let outcome = tell_snapshot(alloc, asked, reader, writer);
+    tell(errors, snapshot_message(&outcome));
+    snapshot_status(&outcome)
+}
+
+/// Does what the words ask for, and answers the status: 0 where all is done, 1 where a line of the
+/// script is at fault, which the writer is told, where a run in threads gave no report, or where a
+/// snapshot is none, 2 where clap refuses the words or they call for help, 3 where the reader or
+/// the writer failed, and 4 where memory was wanted. The errors are told why, but of a faulty line;
+/// that they fail changes nothing. It waits only for `threads`.
 pub fn serve<T: AllocGlobal + Threads + Wait + Sync, S: AsStr, R: Source, W: Sink, E: Sink>(
     rt: &T,
     words: &[S],
@@ -153,26 +208,46 @@ pub fn serve<T: AllocGlobal + Threads + Wait + Sync, S: AsStr, R: Source, W: Sin
     // Where clap reads the words as `run`.
     ensures run { job_in (map S.text words.now) ≡ Some Job.Run →
         ((reader.new ≡ reader.old) × (writer.new ≡ writer.old)
-        × WantsMemory result (E.written errors.old) (E.written errors.new) (E.has_failed errors.new))
+        × WantsMemory result (E.written errors.old) (E.written errors.new)
+        (E.has_failed errors.new))
         ⊎ ((outcome : Result Summary ScriptFault) × (input text : List ℕ)
         × Consumes (R.left reader.old) (R.left reader.new) input
         × Appends (W.written writer.old) (W.written writer.new) text
-        × Tells outcome input text (IsOver (R.has_ended reader.new) (R.left reader.new))
+        × TellsRun outcome input text (HasEnded (R.has_ended reader.new) (R.left reader.new))
         × BlamesFailed outcome (R.has_failed reader.new) (W.has_failed writer.new)
         × (result ≡ status_of outcome)
-        × IsTold (E.written errors.old) (E.written errors.new) (E.has_failed errors.new) (message_of outcome)) }
+        × IsTold (E.written errors.old) (E.written errors.new) (E.has_failed errors.new)
+        (message_of outcome)) }
 
     // Where clap reads them as `threads`.
     ensures threads { (capacity : ℕ) → job_in (map S.text words.now) ≡ Some (Job.Threads capacity) →
         ((reader.new ≡ reader.old) × (writer.new ≡ writer.old)
-        × WantsMemory result (E.written errors.old) (E.written errors.new) (E.has_failed errors.new))
+        × WantsMemory result (E.written errors.old) (E.written errors.new)
+        (E.has_failed errors.new))
         ⊎ ((outcome : Result (Unit {0}) ThreadsFault) × (input text : List ℕ)
         × Consumes (R.left reader.old) (R.left reader.new) input
         × Appends (W.written writer.old) (W.written writer.new) text
-        × TellsThreads capacity outcome input text (IsOver (R.has_ended reader.new) (R.left reader.new))
+        × TellsThreads capacity outcome input text
+        (HasEnded (R.has_ended reader.new) (R.left reader.new))
         × BlamesThreads outcome (R.has_failed reader.new) (W.has_failed writer.new)
         × (result ≡ threads_status outcome)
-        × IsTold (E.written errors.old) (E.written errors.new) (E.has_failed errors.new) (threads_message outcome)) }
+        × IsTold (E.written errors.old) (E.written errors.new) (E.has_failed errors.new)
+        (threads_message outcome)) }
+
+    // Where clap reads them as `picture` or `explain`.
+    ensures tell { (asked : Asked) → job_in (map S.text words.now) ≡ Some (Job.Tell asked) →
+        ((reader.new ≡ reader.old) × (writer.new ≡ writer.old)
+        × WantsMemory result (E.written errors.old) (E.written errors.new)
+        (E.has_failed errors.new))
+        ⊎ ((outcome : Result (Unit {0}) TellFault) × (input text : List ℕ)
+        × Consumes (R.left reader.old) (R.left reader.new) input
+        × Appends (W.written writer.old) (W.written writer.new) text
+        × TellsSnapshot asked outcome input text
+        (HasEnded (R.has_ended reader.new) (R.left reader.new))
+        × BlamesSnapshot outcome (R.has_failed reader.new) (W.has_failed writer.new)
+        × (result ≡ snapshot_status outcome)
+        × IsTold (E.written errors.old) (E.written errors.new) (E.has_failed errors.new)
+        (snapshot_message outcome)) }
 
     // Where they are refused.
     ensures refused { job_in (map S.text words.now) ≡ None →
@@ -183,6 +258,7 @@ pub fn serve<T: AllocGlobal + Threads + Wait + Sync, S: AsStr, R: Source, W: Sin
     match job_of(alloc, words) {
         Ok(Job::Run) => serve_script(alloc, reader, writer, errors),
         Ok(Job::Threads { capacity }) => serve_threads(rt, alloc, capacity, reader, writer, errors),
+        Ok(Job::Tell(asked)) => serve_snapshot(alloc, asked, reader, writer, errors),
         Err(error) => refuse(alloc, &error, errors),
     }
 }

@@ -1,13 +1,15 @@
 //! Scripts whose commands run in threads.
 
-ghost use Rattle.std.specs.Prelude.{◌≡◌, ◌++◌, ◌⊎◌, ℕ, List, Ok, Err, false, true, IfOk, OnOk, string_bytes};
+ghost use Rattle.std.specs.Prelude.{◌≡◌, ◌++◌, ◌⊎◌, ℕ, List, Ok, Err, false, true, IfOk, OnOk};
+ghost use Rattle.std.specs.Prelude.{string_bytes};
 ghost use Rattle.std.specs.Io.KnownBytes.{Appends, Consumes};
 ghost use Rattle.mapdb_exchange.specs.Reports.{HoldSame};
 ghost use Rattle.mapdb_facts.specs.State.{SameAtoms};
 ghost use Rattle.mapdb_script.specs.Cluster.{reply_line};
-ghost use Rattle.mapdb_script.specs.Run.{IsOver};
+ghost use Rattle.mapdb_script.specs.Run.{HasEnded};
 ghost use Rattle.mapdb_script.specs.Script.{fault_line};
-ghost use Rattle.l4map.specs.Threaded.{BlamesThreads, IsWritten, TellsThreads, processor_text, read_failed, report_text, write_failed};
+ghost use Rattle.l4map.specs.Threaded.{BlamesThreads, IsWritten, TellsThreads, processor_text};
+ghost use Rattle.l4map.specs.Threaded.{read_failed, report_text, write_failed};
 
 use mapdb_exchange::{Part, RunFault};
 use mapdb_lines::{LineFault, ScriptFault, Sink, Source, write_all};
@@ -94,9 +96,11 @@ fn report_text(alloc: Global, parts: &[Part]) -> Result<String, AllocError>
 
 /// Writes a text.
 fn write_text<W: Sink>(writer: &mut W, text: &str) -> Result<(), ThreadsFault>
-    ensures told { (front : List ℕ) × Appends (W.written writer.old) (W.written writer.new) front × IsWritten result text.now front }
+    ensures told { (front : List ℕ) × Appends (W.written writer.old) (W.written writer.new) front
+        × IsWritten result text.now front }
     ensures write { result ≡ Err write_failed → W.has_failed writer.new ≡ true }
-    ensures works { (result ≡ Err write_failed) ⊎ (W.has_failed writer.new ≡ W.has_failed writer.old) }
+    ensures works { (result ≡ Err write_failed)
+        ⊎ (W.has_failed writer.new ≡ W.has_failed writer.old) }
     ensures unread { result ≡ Err read_failed → ⊥ }
 {
     match write_all(writer, text.as_bytes()) {
@@ -108,9 +112,11 @@ fn write_text<W: Sink>(writer: &mut W, text: &str) -> Result<(), ThreadsFault>
 /// Writes the text of a report.
 fn write_report<W: Sink>(alloc: Global, parts: &[Part], writer: &mut W) -> Result<(), ThreadsFault>
     requires { HoldSame parts.now }
-    ensures told { (front : List ℕ) × Appends (W.written writer.old) (W.written writer.new) front × IsWritten result (report_text parts.now) front }
+    ensures told { (front : List ℕ) × Appends (W.written writer.old) (W.written writer.new) front
+        × IsWritten result (report_text parts.now) front }
     ensures write { result ≡ Err write_failed → W.has_failed writer.new ≡ true }
-    ensures works { (result ≡ Err write_failed) ⊎ (W.has_failed writer.new ≡ W.has_failed writer.old) }
+    ensures works { (result ≡ Err write_failed)
+        ⊎ (W.has_failed writer.new ≡ W.has_failed writer.old) }
     ensures unread { result ≡ Err read_failed → ⊥ }
 {
     let text = report_text(alloc, parts)?;
@@ -124,18 +130,21 @@ fn write_fault<W: Sink>(
     fault: LineFault,
     writer: &mut W,
 ) -> Result<(), ThreadsFault>
-    ensures told { (front : List ℕ) × Appends (W.written writer.old) (W.written writer.new) front × IsWritten result (fault_line number fault) front }
+    ensures told { (front : List ℕ) × Appends (W.written writer.old) (W.written writer.new) front
+        × IsWritten result (fault_line number fault) front }
     ensures write { result ≡ Err write_failed → W.has_failed writer.new ≡ true }
-    ensures works { (result ≡ Err write_failed) ⊎ (W.has_failed writer.new ≡ W.has_failed writer.old) }
+    ensures works { (result ≡ Err write_failed)
+        ⊎ (W.has_failed writer.new ≡ W.has_failed writer.old) }
     ensures unread { result ≡ Err read_failed → ⊥ }
 {
     let text = fault_text(alloc, number, fault)?;
     write_text(writer, text.as_str())
 }
 
-/// Reads a script, runs its commands, those of each processor in threads of their own over links of this capacity, and writes
-/// what each processor did. At Ok all was read and written. At a faulty line that is told, and no thread was started. Where
-/// the exchange gives no report nothing is written. It waits.
+/// Reads a script, runs its commands, those of each processor in threads of their own over links of
+/// this capacity, and writes what each processor did. At Ok all was read and written. At a faulty
+/// line that is told, and no thread was started. Where the exchange gives no report nothing is
+/// written. It waits.
 pub fn run_threads<T: Threads + Wait + Sync, R: Source, W: Sink>(
     rt: &T,
     alloc: Global,
@@ -147,7 +156,8 @@ pub fn run_threads<T: Threads + Wait + Sync, R: Source, W: Sink>(
     requires writer_works { W.has_failed writer.old ≡ false }
     ensures told { (input text : List ℕ) × Consumes (R.left reader.old) (R.left reader.new) input
         × Appends (W.written writer.old) (W.written writer.new) text
-        × TellsThreads capacity result input text (IsOver (R.has_ended reader.new) (R.left reader.new)) }
+        × TellsThreads capacity result input text
+        (HasEnded (R.has_ended reader.new) (R.left reader.new)) }
     ensures blames { BlamesThreads result (R.has_failed reader.new) (W.has_failed writer.new) }
 {
     let scripts = match thread_scripts(alloc, reader) {

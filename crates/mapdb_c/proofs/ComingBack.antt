@@ -11,8 +11,8 @@ use Rattle.mapdb_facts.specs.declared.operations.Op.{Op}
 use Rattle.mapdb_facts.specs.declared.operations.Op.TheVariants.{Born, Closed, Cut}
 use Rattle.mapdb_facts.specs.declared.operations.Record.{Record}
 use Rattle.mapdb_facts.specs.declared.operations.Revocation.{Revocation}
-use Rattle.mapdb_c.specs.RawOperations.{name_of, record_of, revocation_of, end_of, written_end, written_record, written_revocation}
-use Rattle.mapdb_c.specs.RawPlaces.{◌>>=◌, or_status, place_of, raw_space, rights_of, space_of}
+use Rattle.mapdb_c.specs.RawOperations.{name_given, record_given, revocation_of, end_given, written_end, written_record, written_revocation}
+use Rattle.mapdb_c.specs.RawPlaces.{◌>>=◌, or_status, place_given, raw_space, rights_of, space_given}
 use Rattle.mapdb_c.specs.declared.statuses.Status.{Status}
 
 rights_of_own :
@@ -31,13 +31,13 @@ rights_of_own false false false = refl
 rights_back : (rights : Rights) → rights_of (bits_of rights) ≡ Ok rights
 rights_back rights = rights_of_own rights.read rights.write rights.execute
 
-place_back : (place : Place) → IsPlace place → place_of (place.first_page * 4096) place.order ≡ Ok place
+place_back : (place : Place) → IsPlace place → place_given (place.first_page * 4096) place.order ≡ Ok place
 place_back place is = ap or_status (place_at_own place is)
 
-space_back : (space : Space) → space.number < 65536 → space_of (raw_space space) ≡ Ok space
+space_back : (space : Space) → space.number < 65536 → space_given (raw_space space) ≡ Ok space
 space_back space low = rw (lt-ltb space.number 65536 low) refl
 
-name_back : (id : RecordId) → id.processor < 64 → name_of id.number id.processor ≡ Ok id
+name_back : (id : RecordId) → id.processor < 64 → name_given id.number id.processor ≡ Ok id
 name_back id low = rw (lt-ltb id.processor 64 low) refl
 
 -- a step that is done
@@ -47,7 +47,7 @@ next A B one value f end is then_end = ap (λ (x : Result A Status). x >>= f) is
 
 pub record_back :
     (r : Record) → r.id.processor < 64 → r.space.number < 65536 → IsPlace r.place → r.parent.processor < 64
-    → record_of (written_record r) ≡ Ok (Born r)
+    → record_given (written_record r) ≡ Ok (Born r)
 record_back r id space place parent =
     next _ _ _ _ _ _ (name_back r.id id)
     (next _ _ _ _ _ _ (space_back r.space space)
@@ -62,5 +62,5 @@ revocation_back cut target part =
     (next _ _ _ _ _ _ (place_back cut.part part)
     (next _ _ _ _ _ _ (rights_back cut.rights) refl))
 
-pub end_back : (space : Space) → space.number < 65536 → end_of (written_end space) ≡ Ok (Closed space)
+pub end_back : (space : Space) → space.number < 65536 → end_given (written_end space) ≡ Ok (Closed space)
 end_back space low = next _ _ _ _ _ _ (space_back space low) refl

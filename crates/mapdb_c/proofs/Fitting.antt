@@ -1,7 +1,7 @@
 -- A list that is written place by place, and what is told of it.
 use Rattle.std.proofs.Common.{◌≡◌, refl, sym, subst, ap, inl, inr, ℕ, suc, zero, ◌≤◌, ◌<◌, ◌+◌, List, [], ◌∷◌, ◌++◌, drop, take, length, map, set, arith, get_or}
 use Rattle.std.proofs.lemmas.List.{length-map}
-use Rattle.mapdb_c.specs.Filling.{Fits}
+use Rattle.mapdb_c.specs.Filling.{FitsArray}
 use Rattle.mapdb_c.specs.declared.statuses.Status.TheVariants as status
 
 -- one place more is written
@@ -25,7 +25,7 @@ written_next X Y f xs room old i v d low fits is value =
 -- all of it is written
 pub fits :
     (X Y : Type 0) (f : X → Y) (xs : List X) (old new : List Y) → length xs ≤ length old
-    → new ≡ map f xs ++ drop (length xs) old → Fits (map f xs) status.Done old new (length xs)
+    → new ≡ map f xs ++ drop (length xs) old → FitsArray (map f xs) status.Done old new (length xs)
 fits X Y f xs old new room is =
     let e : length (map f xs) ≡ length xs = length-map xs f in
     inl (refl, sym e, rw e room, rw e is)
@@ -33,7 +33,7 @@ fits X Y f xs old new room is =
 -- there is no room for all of it
 pub does_not_fit :
     (X Y : Type 0) (f : X → Y) (xs : List X) (old : List Y) → length old < length xs
-    → Fits (map f xs) status.NoRoom old old (length xs)
+    → FitsArray (map f xs) status.NoRoom old old (length xs)
 does_not_fit X Y f xs old short =
     let e : length (map f xs) ≡ length xs = length-map xs f in
     inr (refl, sym e, rw e short, refl)
@@ -57,9 +57,9 @@ copied_next X xs room old i v d low fits is value =
 
 pub text_fits :
     (X : Type 0) (xs old new : List X) → length xs ≤ length old → new ≡ xs ++ drop (length xs) old
-    → Fits xs status.Done old new (length xs)
+    → FitsArray xs status.Done old new (length xs)
 text_fits X xs old new room is = inl (refl, refl, room, is)
 
 pub text_does_not_fit :
-    (X : Type 0) (xs old : List X) → length old < length xs → Fits xs status.NoRoom old old (length xs)
+    (X : Type 0) (xs old : List X) → length old < length xs → FitsArray xs status.NoRoom old old (length xs)
 text_does_not_fit X xs old short = inr (refl, refl, short, refl)

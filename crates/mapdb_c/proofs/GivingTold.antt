@@ -6,7 +6,7 @@ use Rattle.mapdb_facts.specs.declared.operations.Op.{Op}
 use Rattle.mapdb_replica.specs.Giving.{IsNotGiven}
 use Rattle.mapdb_replica.specs.declared.faults.GiveFault.{GiveFault}
 use Rattle.mapdb_replica.specs.declared.faults.GiveFault.TheVariants.{BadMark, Memory}
-use Rattle.mapdb_c.specs.Filling.{Fills, Fits}
+use Rattle.mapdb_c.specs.Filling.{Fills, FitsArray}
 use Rattle.mapdb_c.specs.Giving.{GivesAs, give_status}
 use Rattle.mapdb_c.specs.RawOperations.{written_operation}
 use Rattle.mapdb_c.specs.declared.operations.RawOperation.{RawOperation}
@@ -15,7 +15,7 @@ use Rattle.mapdb_c.specs.declared.statuses.Status.TheVariants as status
 
 pub gives :
     (answer : Result (List Op) GiveFault) (ops : List Op) (told : Status) (old new : List RawOperation) (count_old count_new : ℕ)
-    → answer ≡ Ok ops → Fits (map written_operation ops) told old new count_new
+    → answer ≡ Ok ops → FitsArray (map written_operation ops) told old new count_new
     → GivesAs answer told old new count_old count_new
 gives answer ops told old new count_old count_new is fits =
     subst (λ (a : Result (List Op) GiveFault). GivesAs a told old new count_old count_new) (sym is) (inl fits)
@@ -30,7 +30,7 @@ gives_none (Err other) why old count (inr (wanted, ok)) = absurd (false≢true o
 
 pub fills :
     (A : Type 0) (list : List A) (told : Status) (old new : List A) (count_old count_new : ℕ)
-    → Fits list told old new count_new → Fills list told old new count_old count_new
+    → FitsArray list told old new count_new → Fills list told old new count_old count_new
 fills A list told old new count_old count_new is = inl is
 
 pub fills_none :

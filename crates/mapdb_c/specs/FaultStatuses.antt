@@ -1,14 +1,17 @@
 -- The statuses of faults.
 use Rattle.mapdb_fpage.specs.declared.places.FpageFault.{FpageFault}
-use Rattle.mapdb_fpage.specs.declared.places.FpageFault.TheVariants.{OutOfSpace, TooLarge, TooSmall, Unaligned}
+use Rattle.mapdb_fpage.specs.declared.places.FpageFault.TheVariants.{OutOfSpace, TooLarge}
+use Rattle.mapdb_fpage.specs.declared.places.FpageFault.TheVariants.{TooSmall, Unaligned}
 use Rattle.mapdb_fpage.specs.declared.words.ItemFault.{ItemFault}
-use Rattle.mapdb_fpage.specs.declared.words.ItemFault.TheVariants.{Grant, NotMapItem, ReservedBits, Word}
+use Rattle.mapdb_fpage.specs.declared.words.ItemFault.TheVariants.{Grant, NotMapItem, ReservedBits}
+use Rattle.mapdb_fpage.specs.declared.words.ItemFault.TheVariants.{Word}
 use Rattle.mapdb_fpage.specs.declared.words.WordFault.{WordFault}
 use Rattle.mapdb_fpage.specs.declared.words.WordFault.TheVariants.{Page, ReservedBit}
 use Rattle.mapdb_facts.specs.declared.checking.OpFault.{OpFault}
 use Rattle.mapdb_facts.specs.declared.checking.OpFault.TheVariants as bad
 use Rattle.mapdb_replica.specs.declared.faults.IssueFault.{IssueFault}
-use Rattle.mapdb_replica.specs.declared.faults.IssueFault.TheVariants.{Full, Memory, NumbersSpent, RootSpace, SpaceEnded}
+use Rattle.mapdb_replica.specs.declared.faults.IssueFault.TheVariants.{Full, Memory, NumbersSpent}
+use Rattle.mapdb_replica.specs.declared.faults.IssueFault.TheVariants.{RootSpace, SpaceEnded}
 use Rattle.mapdb_c.specs.declared.statuses.Status.{Status}
 use Rattle.mapdb_c.specs.declared.statuses.Status.TheVariants as status
 

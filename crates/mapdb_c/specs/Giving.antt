@@ -15,7 +15,9 @@ give_status BadMark = status.BadMark
 give_status Memory = status.Memory
 
 -- what is given goes into the caller's array; of bad marks nothing is given
-abbrev pub GivesAs : Result (List Op) GiveFault → Status → List RawOperation → List RawOperation → ℕ → ℕ → Type 0
-GivesAs (Ok ops) told old new count_old count_new = Fills (map written_operation ops) told old new count_old count_new
+abbrev pub GivesAs : Result (List Op) GiveFault → Status → List RawOperation → List RawOperation
+    → ℕ → ℕ → Type 0
+GivesAs (Ok ops) told old new count_old count_new = Fills (map written_operation ops)
+    told old new count_old count_new
 GivesAs (Err why) told old new count_old count_new =
     (told ≡ give_status why) × (count_new ≡ count_old) × (new ≡ old)

@@ -5,7 +5,8 @@ use Rattle.mapdb_replica.specs.Replica.{Log}
 use Rattle.mapdb_replica.specs.Taking.{take_outcome}
 use Rattle.mapdb_snapshot.specs.Reading.{snapshot_of}
 use Rattle.mapdb_snapshot.specs.declared.faults.SnapshotFault.{SnapshotFault}
-use Rattle.mapdb_snapshot.specs.declared.faults.SnapshotFault.TheVariants.{Memory, NotJson, Page, Shape, Version}
+use Rattle.mapdb_snapshot.specs.declared.faults.SnapshotFault.TheVariants.{Memory, NotJson, Page}
+use Rattle.mapdb_snapshot.specs.declared.faults.SnapshotFault.TheVariants.{Shape, Version}
 use Rattle.mapdb_c.specs.FaultStatuses.{place_status}
 use Rattle.mapdb_c.specs.Taking.{TakesAs, taken_with}
 use Rattle.mapdb_c.specs.declared.statuses.Status.{Status}
@@ -22,13 +23,17 @@ snapshot_status Memory = status.Memory
 
 -- a text is not read, for this
 abbrev pub IsNotRead : SnapshotFault → Status → Taken → Log → Log → Type 0
-IsNotRead why told taken old new = (told ≡ snapshot_status why) × (taken ≡ taken_with 0) × (new ≡ old)
+IsNotRead why told taken old new = (told ≡ snapshot_status why) × (taken ≡ taken_with 0)
+    × (new ≡ old)
 
--- What taking a text leaves and tells: what it says is taken as a batch. To read it, memory may be wanted in place of all else.
+-- What taking a text leaves and tells: what it says is taken as a batch. To read it, memory may be
+-- wanted in place of all else.
 abbrev pub LoadsRead : Result (List Op) SnapshotFault → Status → Taken → Log → Log → Type 0
-LoadsRead (Err why) told taken old new = IsNotRead why told taken old new ⊎ IsNotRead Memory told taken old new
+LoadsRead (Err why) told taken old new = IsNotRead why told taken old new
+    ⊎ IsNotRead Memory told taken old new
 LoadsRead (Ok batch) told taken old new =
-    TakesAs batch (take_outcome old.ops batch) told taken old new ⊎ IsNotRead Memory told taken old new
+    TakesAs batch (take_outcome old.ops batch) told taken old new
+    ⊎ IsNotRead Memory told taken old new
 
 abbrev pub LoadsAs : List ℕ → Status → Taken → Log → Log → Type 0
 LoadsAs text told taken old new = LoadsRead (snapshot_of text) told taken old new

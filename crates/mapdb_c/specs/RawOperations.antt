@@ -9,47 +9,55 @@ use Rattle.mapdb_facts.specs.declared.operations.Op.{Op}
 use Rattle.mapdb_facts.specs.declared.operations.Op.TheVariants.{Born, Closed, Cut}
 use Rattle.mapdb_facts.specs.declared.operations.Record.{Record}
 use Rattle.mapdb_facts.specs.declared.operations.Revocation.{Revocation}
-use Rattle.mapdb_c.specs.RawPlaces.{◌>>=◌, place_of, raw_space, rights_of, space_of}
+use Rattle.mapdb_c.specs.RawPlaces.{◌>>=◌, place_given, raw_space, rights_of, space_given}
 use Rattle.mapdb_c.specs.declared.operations.RawOperation.{RawOperation}
 use Rattle.mapdb_c.specs.declared.raw_places.RawSpace.{RawSpace}
 use Rattle.mapdb_c.specs.declared.statuses.Status.{Status}
 use Rattle.mapdb_c.specs.declared.statuses.Status.TheVariants as status
 
 -- the name of a record, whose processor is one
-abbrev pub name_of : ℕ → ℕ → Result RecordId Status
-name_of number processor =
-    if nat_lt processor processor_limit then Ok (record { number = number; processor = processor }) else Err status.BadProcessor
+abbrev pub name_given : ℕ → ℕ → Result RecordId Status
+name_given number processor =
+    if nat_lt processor processor_limit then Ok (record { number = number; processor = processor })
+    else Err status.BadProcessor
 
 -- what an operation of the kind of records says
-abbrev pub record_of : RawOperation → Result Op Status
-record_of raw = do
-  id ← name_of raw.number raw.processor
-  space ← space_of raw.space
-  place ← place_of raw.address raw.order
-  parent ← name_of raw.parent_number raw.parent_processor
+abbrev pub record_given : RawOperation → Result Op Status
+record_given raw = do
+  id ← name_given raw.number raw.processor
+  space ← space_given raw.space
+  place ← place_given raw.address raw.order
+  parent ← name_given raw.parent_number raw.parent_processor
   rights ← rights_of raw.rights
-  Ok (Born (record { id = id; space = space; place = place; parent = parent; source = raw.source; rights = rights }))
+  Ok (Born (record {
+    id = id;
+    space = space;
+    place = place;
+    parent = parent;
+    source = raw.source;
+    rights = rights;
+  }))
 
 -- what an operation of the kind of revocations says
 abbrev pub revocation_of : RawOperation → Result Op Status
 revocation_of raw = do
-  target ← name_of raw.number raw.processor
-  part ← place_of raw.address raw.order
+  target ← name_given raw.number raw.processor
+  part ← place_given raw.address raw.order
   rights ← rights_of raw.rights
   Ok (Cut (record { target = target; part = part; rights = rights }))
 
 -- what an operation of the kind of ends says
-abbrev pub end_of : RawOperation → Result Op Status
-end_of raw = do
-  space ← space_of raw.space
+abbrev pub end_given : RawOperation → Result Op Status
+end_given raw = do
+  space ← space_given raw.space
   Ok (Closed space)
 
 -- The operation: of kind 1 a record, of 2 a revocation, of 3 the end of a space.
 abbrev pub operation_of : RawOperation → Result Op Status
 operation_of raw =
-    if raw.kind == 1 then record_of raw
+    if raw.kind == 1 then record_given raw
     else (if raw.kind == 2 then revocation_of raw
-    else (if raw.kind == 3 then end_of raw
+    else (if raw.kind == 3 then end_given raw
     else Err status.BadKind))
 
 abbrev pub written_record : Record → RawOperation

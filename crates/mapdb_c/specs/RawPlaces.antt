@@ -1,5 +1,6 @@
 -- What C's spaces and fpages say, or the status of what is wrong with them.
-use Rattle.std.specs.Prelude.{ℕ, ◌==◌, nat_le, nat_lt, Option, Some, None, Result, Ok, Err, if◌then◌else◌}
+use Rattle.std.specs.Prelude.{ℕ, ◌==◌, nat_le, nat_lt, Option, Some, None, Result, Ok, Err}
+use Rattle.std.specs.Prelude.{if◌then◌else◌}
 use Rattle.mapdb_fpage.specs.Addresses.{place_at}
 use Rattle.mapdb_fpage.specs.Place.{Place}
 use Rattle.mapdb_fpage.specs.RightSets.{rights_of_bits}
@@ -19,9 +20,10 @@ abbrev pub ◌>>=◌ : {A B : Type 0} → Result A Status → (A → Result B St
 (Err e) >>= f = Err e
 
 -- the space, whose number is below 2 ^ 16
-abbrev pub space_of : RawSpace → Result Space Status
-space_of raw =
-    if nat_lt raw.number 65536 then Ok (record { number = raw.number; version = raw.version }) else Err status.BadSpace
+abbrev pub space_given : RawSpace → Result Space Status
+space_given raw =
+    if nat_lt raw.number 65536 then Ok (record { number = raw.number; version = raw.version })
+    else Err status.BadSpace
 
 -- the space as C has it
 abbrev pub raw_space : Space → RawSpace
@@ -40,12 +42,13 @@ or_status (Ok place) = Ok place
 or_status (Err fault) = Err (place_status fault)
 
 -- the place of 2 ^ order bytes from the address on
-abbrev pub place_of : ℕ → ℕ → Result Place Status
-place_of address order = or_status (place_at address order)
+abbrev pub place_given : ℕ → ℕ → Result Place Status
+place_given address order = or_status (place_at address order)
 
 -- the place, or nil, whose order is 0
 abbrev pub optional_place : ℕ → ℕ → Result (Option Place) Status
-optional_place address order = if order == 0 then Ok None else (place_of address order >>= (λ place. Ok (Some place)))
+optional_place address order = if order == 0 then Ok None
+    else (place_given address order >>= (λ place. Ok (Some place)))
 
 -- the receive window, whose rights are not looked at
 abbrev pub window_of : RawFpage → Result (Option Place) Status

@@ -4,8 +4,8 @@ use Rattle.mapdb_table.specs.declared.rows.TableRow.{TableRow}
 use Rattle.mapdb_c.specs.RawPlaces.{raw_space}
 use Rattle.mapdb_c.specs.declared.tables.RawRow.{RawRow}
 
-abbrev pub row_of : TableRow → RawRow
-row_of row = record {
+abbrev pub raw_row : TableRow → RawRow
+raw_row row = record {
   space = raw_space row.space;
   page = row.page;
   count = row.count;

@@ -30,7 +30,8 @@ before (Ok op) (Ok ops) = Ok (op ∷ ops)
 -- the operations of a batch from this place on
 abbrev pub operations_from : ℕ → List RawOperation → Result (List Op) Unread
 operations_from place [] = Ok []
-operations_from place (raw ∷ rest) = before (operation_at place raw) (operations_from (place + 1) rest)
+operations_from place (raw ∷ rest) =
+    before (operation_at place raw) (operations_from (place + 1) rest)
 
 -- the others, behind those that were read
 abbrev pub behind : List Op → Result (List Op) Unread → Result (List Op) Unread

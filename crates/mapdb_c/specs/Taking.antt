@@ -26,7 +26,13 @@ part_taken place = record { count = 0; place = place; number = 0; processor = 0;
 -- what is told of a batch that was not taken, or not all of it
 abbrev pub fault_told : TakeFault → Taken
 fault_told (Bad place why) = part_taken place
-fault_told (Clash id) = record { count = 0; place = 0; number = id.number; processor = id.processor; reserved = 0 }
+fault_told (Clash id) = record {
+  count = 0;
+  place = 0;
+  number = id.number;
+  processor = id.processor;
+  reserved = 0;
+}
 fault_told Full = taken_with 0
 fault_told (Memory taken) = part_taken taken
 
@@ -38,7 +44,8 @@ take_status (Memory taken) = status.Memory
 
 -- all that is new of the batch is taken
 abbrev pub AllTaken : List Op → Status → Taken → Log → Log → Type 0
-AllTaken ops told taken old new = (told ≡ status.Done) × (taken ≡ taken_with (length ops)) × (new ≡ with_taken old ops)
+AllTaken ops told taken old new = (told ≡ status.Done) × (taken ≡ taken_with (length ops))
+    × (new ≡ with_taken old ops)
 
 -- memory was wanted: what is new of the first so many is taken, which are not all
 abbrev pub SomeTaken : List Op → Status → Taken → Log → Log → Type 0
@@ -53,12 +60,14 @@ IsFaultTold fault told taken = (told ≡ take_status fault) × (taken ≡ fault_
 -- a refusal is told; in place of a clash or of the limit memory may be wanted
 abbrev pub IsRefusalTold : TakeFault → Status → Taken → Type 0
 IsRefusalTold (Bad place why) told taken = IsFaultTold (Bad place why) told taken
-IsRefusalTold refusal told taken = IsFaultTold refusal told taken ⊎ IsFaultTold (Memory 0) told taken
+IsRefusalTold refusal told taken = IsFaultTold refusal told taken
+    ⊎ IsFaultTold (Memory 0) told taken
 
 -- what a batch that has an outcome leaves and tells: a refusal changes nothing
 abbrev pub TakesAs : List Op → Result (List Op) TakeFault → Status → Taken → Log → Log → Type 0
 TakesAs batch (Err refusal) told taken old new = IsRefusalTold refusal told taken × (new ≡ old)
-TakesAs batch (Ok ops) told taken old new = AllTaken ops told taken old new ⊎ SomeTaken batch told taken old new
+TakesAs batch (Ok ops) told taken old new = AllTaken ops told taken old new
+    ⊎ SomeTaken batch told taken old new
 
 -- what is told of a batch that is not read
 abbrev pub unread_told : Unread → Taken
@@ -67,14 +76,17 @@ unread_told unread.Memory = taken_with 0
 
 -- a batch is not read, for this
 abbrev pub IsUnreadAs : Unread → Status → Taken → Log → Log → Type 0
-IsUnreadAs why told taken old new = (told ≡ unread_status why) × (taken ≡ unread_told why) × (new ≡ old)
+IsUnreadAs why told taken old new = (told ≡ unread_status why) × (taken ≡ unread_told why)
+    × (new ≡ old)
 
--- What taking a batch of C's leaves and tells: the first operation that is none is told, before the batch is looked at as a
--- whole. To read them, memory may be wanted in place of all else.
+-- What taking a batch of C's leaves and tells: the first operation that is none is told, before the
+-- batch is looked at as a whole. To read them, memory may be wanted in place of all else.
 abbrev pub TakesRead : Result (List Op) Unread → Status → Taken → Log → Log → Type 0
-TakesRead (Err why) told taken old new = IsUnreadAs why told taken old new ⊎ IsUnreadAs unread.Memory told taken old new
+TakesRead (Err why) told taken old new = IsUnreadAs why told taken old new
+    ⊎ IsUnreadAs unread.Memory told taken old new
 TakesRead (Ok batch) told taken old new =
-    TakesAs batch (take_outcome old.ops batch) told taken old new ⊎ IsUnreadAs unread.Memory told taken old new
+    TakesAs batch (take_outcome old.ops batch) told taken old new
+    ⊎ IsUnreadAs unread.Memory told taken old new
 
 abbrev pub TakesGiven : List RawOperation → Status → Taken → Log → Log → Type 0
 TakesGiven raws told taken old new = TakesRead (operations_from 0 raws) told taken old new

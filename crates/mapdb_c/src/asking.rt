@@ -9,8 +9,8 @@ ghost use Rattle.mapdb_replica.specs.Running.{IsRunEnd};
 ghost use Rattle.mapdb_replica.specs.Served.{served};
 ghost use Rattle.mapdb_replica.specs.Versions.{free_version};
 ghost use Rattle.mapdb_c.specs.Asking.{ServesAs, found_of, number_within, paged};
-ghost use Rattle.mapdb_c.specs.RawPlaces.{space_of};
-ghost use Rattle.mapdb_c.specs.StatusNumbers.{Tells, number_of};
+ghost use Rattle.mapdb_c.specs.RawPlaces.{space_given};
+ghost use Rattle.mapdb_c.specs.StatusNumbers.{Tells, status_number};
 ghost use Rattle.mapdb_c.specs.declared.statuses.Status.{Status};
 ghost use Rattle.mapdb_c.specs.declared.statuses.Status.TheVariants as status;
 
@@ -68,11 +68,12 @@ pub extern "C" fn mapdb_served(
     found: &mut Found,
 ) -> u32
     ensures kept { handle.new.held ≡ handle.old.held }
-    ensures refused { (why : Status) → space_of space ≡ Err why
-        → (result ≡ number_of why) × (found.new ≡ found.old) }
-    ensures none { (given : Space) → space_of space ≡ Ok given → handle.old.held ≡ None
-        → (result ≡ number_of status.NoCopy) × (found.new ≡ found.old) }
-    ensures serves { (given : Space) (log : Log) → space_of space ≡ Ok given → handle.old.held ≡ Some log
+    ensures refused { (why : Status) → space_given space ≡ Err why
+        → (result ≡ status_number why) × (found.new ≡ found.old) }
+    ensures none { (given : Space) → space_given space ≡ Ok given → handle.old.held ≡ None
+        → (result ≡ status_number status.NoCopy) × (found.new ≡ found.old) }
+    ensures serves { (given : Space) (log : Log) → space_given space ≡ Ok given
+        → handle.old.held ≡ Some log
         → Tells result (λ answer. ServesAs (served log.ops given page) answer found.old found.new) }
 {
     let space = match space_of(space) {
@@ -89,7 +90,7 @@ pub extern "C" fn mapdb_served(
 
 /// The space, unless its words or the page are out of bounds.
 fn paged(space: RawSpace, page: u64) -> Result<Space, Status>
-    ensures told { result ≡ paged (space_of space) page }
+    ensures told { result ≡ paged (space_given space) page }
     ensures within { OnOk result (page < PAGE_LIMIT) }
 {
     let space = space_of(space)?;
@@ -100,8 +101,8 @@ fn paged(space: RawSpace, page: u64) -> Result<Space, Status>
     }
 }
 
-/// One past the last page up to which what a page of a space is served from goes on from this page: none at all of them,
-/// or frames that rise by one with each page, with equal rights.
+/// One past the last page up to which what a page of a space is served from goes on from this page:
+/// none at all of them, or frames that rise by one with each page, with equal rights.
 #[unsafe(no_mangle)]
 pub extern "C" fn mapdb_run_end(
     alloc: Global,
@@ -111,12 +112,14 @@ pub extern "C" fn mapdb_run_end(
     end: &mut u64,
 ) -> u32
     ensures kept { handle.new.held ≡ handle.old.held }
-    ensures refused { (why : Status) → paged (space_of space) page ≡ Err why
-        → (result ≡ number_of why) × (end.new ≡ end.old) }
-    ensures none { (given : Space) → paged (space_of space) page ≡ Ok given → handle.old.held ≡ None
-        → (result ≡ number_of status.NoCopy) × (end.new ≡ end.old) }
-    ensures ends { (given : Space) (log : Log) → paged (space_of space) page ≡ Ok given → handle.old.held ≡ Some log
-        → (result ≡ number_of status.Done) × IsRunEnd (served log.ops given) page end.new }
+    ensures refused { (why : Status) → paged (space_given space) page ≡ Err why
+        → (result ≡ status_number why) × (end.new ≡ end.old) }
+    ensures none { (given : Space) → paged (space_given space) page ≡ Ok given
+        → handle.old.held ≡ None
+        → (result ≡ status_number status.NoCopy) × (end.new ≡ end.old) }
+    ensures ends { (given : Space) (log : Log) → paged (space_given space) page ≡ Ok given
+        → handle.old.held ≡ Some log
+        → (result ≡ status_number status.Done) × IsRunEnd (served log.ops given) page end.new }
 {
     let space = match paged(space, page) {
         Ok(space) => space,
@@ -140,9 +143,10 @@ pub extern "C" fn mapdb_counts(
 ) -> u32
     ensures kept { handle.new.held ≡ handle.old.held }
     ensures none { handle.old.held ≡ None
-        → (result ≡ number_of status.NoCopy) × (held.new ≡ held.old) × (own.new ≡ own.old) }
+        → (result ≡ status_number status.NoCopy) × (held.new ≡ held.old) × (own.new ≡ own.old) }
     ensures counts { (log : Log) → handle.old.held ≡ Some log
-        → (result ≡ number_of status.Done) × (held.new ≡ length log.ops) × (own.new ≡ length log.own) }
+        → (result ≡ status_number status.Done) × (held.new ≡ length log.ops)
+        × (own.new ≡ length log.own) }
 {
     let Some(replica) = handle.take(alloc) else {
         return Status::NoCopy.number();
@@ -173,11 +177,11 @@ pub extern "C" fn mapdb_free_version(
 ) -> u32
     ensures kept { handle.new.held ≡ handle.old.held }
     ensures refused { (why : Status) → number_within number ≡ Err why
-        → (result ≡ number_of why) × (version.new ≡ version.old) }
+        → (result ≡ status_number why) × (version.new ≡ version.old) }
     ensures none { number_within number ≡ Ok number → handle.old.held ≡ None
-        → (result ≡ number_of status.NoCopy) × (version.new ≡ version.old) }
+        → (result ≡ status_number status.NoCopy) × (version.new ≡ version.old) }
     ensures free { (log : Log) → number_within number ≡ Ok number → handle.old.held ≡ Some log
-        → (result ≡ number_of status.Done) × (version.new ≡ free_version log.ops number) }
+        → (result ≡ status_number status.Done) × (version.new ≡ free_version log.ops number) }
 {
     let number = match number_within(number) {
         Ok(number) => number,

@@ -1,7 +1,9 @@
 //! Commands, as C gives them by value or by the kernel's words.
 
 ghost use Rattle.std.specs.Prelude.{◌≡◌};
-ghost use Rattle.mapdb_c.specs.RawCommands.{end_command, item_of, map_command, unmap_command, window_of_word, word_map_command, word_page, word_unmap_command};
+ghost use Rattle.mapdb_c.specs.RawCommands.{end_command, item_of, map_command, unmap_command};
+ghost use Rattle.mapdb_c.specs.RawCommands.{window_given, word_map_command, word_page};
+ghost use Rattle.mapdb_c.specs.RawCommands.{word_unmap_command};
 
 use crate::faults::{item_status, word_status};
 use crate::raw_places::{RawFpage, RawSpace, fpage_of, space_of, window_of};
@@ -21,7 +23,7 @@ fn item_of(first: u64, second: u64) -> Result<MapItem, Status>
 
 /// The receive window of a word.
 fn window_of_word(word: u64) -> Result<Option<Fpage>, Status>
-    ensures { result ≡ window_of_word word }
+    ensures { result ≡ window_given word }
 {
     match Fpage::window_from_word(word) {
         Ok(window) => Ok(window),
@@ -39,7 +41,8 @@ fn word_page(word: u64) -> Result<(Option<Fpage>, Rights), Status>
     }
 }
 
-/// The Map of an item that is given by value. What is wrong is looked for in the order of the arguments.
+/// The Map of an item that is given by value. What is wrong is looked for in the order of the
+/// arguments.
 pub fn map_command(
     sender: RawSpace,
     send_base: u64,

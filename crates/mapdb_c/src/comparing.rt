@@ -5,7 +5,7 @@ ghost use Rattle.std.specs.declared.option.Option.TheVariants.{None, Some};
 ghost use Rattle.mapdb_facts.specs.State.{Covers, SameAtoms};
 ghost use Rattle.mapdb_replica.specs.Agreement.{LookAlike};
 ghost use Rattle.mapdb_replica.specs.Replica.{Log};
-ghost use Rattle.mapdb_c.specs.StatusNumbers.{number_of};
+ghost use Rattle.mapdb_c.specs.StatusNumbers.{status_number};
 ghost use Rattle.mapdb_c.specs.declared.statuses.Status.TheVariants as status;
 
 use crate::handles::Handle;
@@ -23,10 +23,12 @@ pub extern "C" fn mapdb_covers(
 ) -> u32
     ensures kept { handle.new.held ≡ handle.old.held }
     ensures kept_other { other.new.held ≡ other.old.held }
-    ensures none { handle.old.held ≡ None → (result ≡ number_of status.NoCopy) × (answer.new ≡ answer.old) }
-    ensures none_other { other.old.held ≡ None → (result ≡ number_of status.NoCopy) × (answer.new ≡ answer.old) }
+    ensures none { handle.old.held ≡ None
+        → (result ≡ status_number status.NoCopy) × (answer.new ≡ answer.old) }
+    ensures none_other { other.old.held ≡ None
+        → (result ≡ status_number status.NoCopy) × (answer.new ≡ answer.old) }
     ensures done { (log others : Log) → handle.old.held ≡ Some log → other.old.held ≡ Some others
-        → result ≡ number_of status.Done }
+        → result ≡ status_number status.Done }
     ensures covers { (log others : Log) → handle.old.held ≡ Some log → other.old.held ≡ Some others
         → IsTrue answer.new ↔ Covers log.ops others.ops }
 {
@@ -53,10 +55,12 @@ pub extern "C" fn mapdb_same(
 ) -> u32
     ensures kept { handle.new.held ≡ handle.old.held }
     ensures kept_other { other.new.held ≡ other.old.held }
-    ensures none { handle.old.held ≡ None → (result ≡ number_of status.NoCopy) × (answer.new ≡ answer.old) }
-    ensures none_other { other.old.held ≡ None → (result ≡ number_of status.NoCopy) × (answer.new ≡ answer.old) }
+    ensures none { handle.old.held ≡ None
+        → (result ≡ status_number status.NoCopy) × (answer.new ≡ answer.old) }
+    ensures none_other { other.old.held ≡ None
+        → (result ≡ status_number status.NoCopy) × (answer.new ≡ answer.old) }
     ensures done { (log others : Log) → handle.old.held ≡ Some log → other.old.held ≡ Some others
-        → result ≡ number_of status.Done }
+        → result ≡ status_number status.Done }
     ensures same { (log others : Log) → handle.old.held ≡ Some log → other.old.held ≡ Some others
         → IsTrue answer.new ↔ SameAtoms log.ops others.ops }
     ensures alike { (log others : Log) → handle.old.held ≡ Some log → other.old.held ≡ Some others

@@ -1,7 +1,8 @@
 //! The statuses of faults.
 
 ghost use Rattle.std.specs.Prelude.{◌≡◌};
-ghost use Rattle.mapdb_c.specs.FaultStatuses.{issue_status, item_status, op_status, place_status, word_status};
+ghost use Rattle.mapdb_c.specs.FaultStatuses.{issue_status, item_status, op_status, place_status};
+ghost use Rattle.mapdb_c.specs.FaultStatuses.{word_status};
 
 use crate::statuses::Status;
 use mapdb_facts::OpFault;

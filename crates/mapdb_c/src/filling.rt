@@ -3,7 +3,7 @@
 ghost use Rattle.std.specs.Prelude.{◌≡◌, ◌≤◌, ◌++◌, drop, length, map};
 ghost use Rattle.mapdb_fpage.specs.declared.right_sets.Rights.{Rights};
 ghost use Rattle.mapdb_c.specs.Asking.{found_of};
-ghost use Rattle.mapdb_c.specs.Filling.{Fits};
+ghost use Rattle.mapdb_c.specs.Filling.{FitsArray};
 ghost use Rattle.mapdb_c.specs.RawOperations.{written_operation};
 
 use crate::asking::{Found, found_of};
@@ -22,10 +22,11 @@ fn write_operations(ops: &[Op], room: &mut [RawOperation])
     }
 }
 
-/// Writes operations into the caller's array where it has room for all of them, and tells how many they are.
+/// Writes operations into the caller's array where it has room for all of them, and tells how many
+/// they are.
 #[tactic(auto, using(crate::proofs::Fitting::fits, crate::proofs::Fitting::does_not_fit))]
 pub fn fill_operations(ops: &[Op], room: &mut [RawOperation], count: &mut u64) -> Status
-    ensures { Fits (map written_operation ops.now) result room.old room.new count.new }
+    ensures { FitsArray (map written_operation ops.now) result room.old room.new count.new }
 {
     *count = ops.len() as u64;
     if ops.len() > room.len() {
@@ -45,10 +46,11 @@ fn write_found(pairs: &[(u64, Rights)], room: &mut [Found])
     }
 }
 
-/// Writes frames with their rights into the caller's array where it has room for all of them, and tells how many they are.
+/// Writes frames with their rights into the caller's array where it has room for all of them, and
+/// tells how many they are.
 #[tactic(auto, using(crate::proofs::Fitting::fits, crate::proofs::Fitting::does_not_fit))]
 pub fn fill_found(pairs: &[(u64, Rights)], room: &mut [Found], count: &mut u64) -> Status
-    ensures { Fits (map found_of pairs.now) result room.old room.new count.new }
+    ensures { FitsArray (map found_of pairs.now) result room.old room.new count.new }
 {
     *count = pairs.len() as u64;
     if pairs.len() > room.len() {

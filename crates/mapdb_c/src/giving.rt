@@ -10,8 +10,8 @@ ghost use Rattle.mapdb_replica.specs.Replica.{Log};
 ghost use Rattle.mapdb_c.specs.Asking.{found_of};
 ghost use Rattle.mapdb_c.specs.Filling.{Fills};
 ghost use Rattle.mapdb_c.specs.Giving.{GivesAs, give_status};
-ghost use Rattle.mapdb_c.specs.RawPlaces.{space_of};
-ghost use Rattle.mapdb_c.specs.StatusNumbers.{Tells, number_of};
+ghost use Rattle.mapdb_c.specs.RawPlaces.{space_given};
+ghost use Rattle.mapdb_c.specs.StatusNumbers.{Tells, status_number};
 ghost use Rattle.mapdb_c.specs.declared.statuses.Status.{Status};
 ghost use Rattle.mapdb_c.specs.declared.statuses.Status.TheVariants as status;
 
@@ -44,7 +44,8 @@ fn give_at(
     room: &mut [RawOperation],
     count: &mut u64,
 ) -> Status
-    ensures { GivesAs (given replica.now.ops first end) result room.old room.new count.old count.new }
+    ensures { GivesAs (given replica.now.ops first end)
+        result room.old room.new count.old count.new }
 {
     match replica.give(first, end) {
         Ok(ops) => fill_operations(ops.as_slice(), room, count),
@@ -61,7 +62,8 @@ fn give_own_at(
     room: &mut [RawOperation],
     count: &mut u64,
 ) -> Status
-    ensures { GivesAs (given replica.now.own first end) result room.old room.new count.old count.new }
+    ensures { GivesAs (given replica.now.own first end)
+        result room.old room.new count.old count.new }
 {
     match replica.give_own(first, end) {
         Ok(ops) => fill_operations(ops.as_slice(), room, count),
@@ -87,8 +89,8 @@ fn rights_at(
     }
 }
 
-/// Writes the operations that the copy holds, in order of arrival, from the mark `first` on up to before the mark `end`, into
-/// the caller's array.
+/// Writes the operations that the copy holds, in order of arrival, from the mark `first` on up to
+/// before the mark `end`, into the caller's array.
 #[unsafe(no_mangle)]
 pub extern "C" fn mapdb_give(
     alloc: Global,
@@ -100,9 +102,10 @@ pub extern "C" fn mapdb_give(
 ) -> u32
     ensures kept { handle.new.held ≡ handle.old.held }
     ensures none { handle.old.held ≡ None
-        → (result ≡ number_of status.NoCopy) × (room.new ≡ room.old) × (count.new ≡ count.old) }
+        → (result ≡ status_number status.NoCopy) × (room.new ≡ room.old) × (count.new ≡ count.old) }
     ensures gives { (log : Log) → handle.old.held ≡ Some log
-        → Tells result (λ answer. GivesAs (given log.ops first end) answer room.old room.new count.old count.new) }
+        → Tells result (λ answer. GivesAs (given log.ops first end)
+        answer room.old room.new count.old count.new) }
 {
     let Some(replica) = handle.take(alloc) else {
         return Status::NoCopy.number();
@@ -112,8 +115,8 @@ pub extern "C" fn mapdb_give(
     answer.number()
 }
 
-/// Writes the operations that the copy has issued, in order, from the mark `first` on up to before the mark `end`, into the
-/// caller's array.
+/// Writes the operations that the copy has issued, in order, from the mark `first` on up to before
+/// the mark `end`, into the caller's array.
 #[unsafe(no_mangle)]
 pub extern "C" fn mapdb_give_own(
     alloc: Global,
@@ -125,9 +128,10 @@ pub extern "C" fn mapdb_give_own(
 ) -> u32
     ensures kept { handle.new.held ≡ handle.old.held }
     ensures none { handle.old.held ≡ None
-        → (result ≡ number_of status.NoCopy) × (room.new ≡ room.old) × (count.new ≡ count.old) }
+        → (result ≡ status_number status.NoCopy) × (room.new ≡ room.old) × (count.new ≡ count.old) }
     ensures gives { (log : Log) → handle.old.held ≡ Some log
-        → Tells result (λ answer. GivesAs (given log.own first end) answer room.old room.new count.old count.new) }
+        → Tells result (λ answer. GivesAs (given log.own first end)
+        answer room.old room.new count.old count.new) }
 {
     let Some(replica) = handle.take(alloc) else {
         return Status::NoCopy.number();
@@ -137,7 +141,8 @@ pub extern "C" fn mapdb_give_own(
     answer.number()
 }
 
-/// Writes each frame that a page of a space has some right to, with its rights, ascending by frame, into the caller's array.
+/// Writes each frame that a page of a space has some right to, with its rights, ascending by frame,
+/// into the caller's array.
 #[unsafe(no_mangle)]
 pub extern "C" fn mapdb_rights(
     alloc: Global,
@@ -148,11 +153,12 @@ pub extern "C" fn mapdb_rights(
     count: &mut u64,
 ) -> u32
     ensures kept { handle.new.held ≡ handle.old.held }
-    ensures refused { (why : Status) → space_of space ≡ Err why
-        → (result ≡ number_of why) × (room.new ≡ room.old) × (count.new ≡ count.old) }
-    ensures none { (named : Space) → space_of space ≡ Ok named → handle.old.held ≡ None
-        → (result ≡ number_of status.NoCopy) × (room.new ≡ room.old) × (count.new ≡ count.old) }
-    ensures rights { (named : Space) (log : Log) → space_of space ≡ Ok named → handle.old.held ≡ Some log
+    ensures refused { (why : Status) → space_given space ≡ Err why
+        → (result ≡ status_number why) × (room.new ≡ room.old) × (count.new ≡ count.old) }
+    ensures none { (named : Space) → space_given space ≡ Ok named → handle.old.held ≡ None
+        → (result ≡ status_number status.NoCopy) × (room.new ≡ room.old) × (count.new ≡ count.old) }
+    ensures rights { (named : Space) (log : Log) → space_given space ≡ Ok named
+        → handle.old.held ≡ Some log
         → Tells result (λ answer. Fills (map found_of (page_rights log.ops named page))
         answer room.old room.new count.old count.new) }
 {

@@ -4,11 +4,12 @@ ghost use Rattle.std.specs.Prelude.{◌≡◌};
 ghost use Rattle.std.specs.declared.option.Option.TheVariants.{None, Some};
 ghost use Rattle.std.specs.declared.result.Result.TheVariants.{Err, Ok};
 ghost use Rattle.mapdb_replica.specs.Commands.{command_outcome};
-ghost use Rattle.mapdb_replica.specs.Replica.{Log, map_outcome};
-ghost use Rattle.mapdb_replica.specs.Unmap.{end_outcome, unmap_outcome};
+ghost use Rattle.mapdb_replica.specs.Replica.{Log};
 ghost use Rattle.mapdb_replica.specs.declared.commands.Command.{Command};
-ghost use Rattle.mapdb_c.specs.Issuing.{IssuesAs, IssuesFor, command_told, end_told, issued_with, map_told, refusal_told, unmap_told};
-ghost use Rattle.mapdb_c.specs.RawCommands.{end_command, map_command, unmap_command, word_map_command, word_unmap_command};
+ghost use Rattle.mapdb_c.specs.Issuing.{IssuesAs, IssuesFor, applied_told, issued_with};
+ghost use Rattle.mapdb_c.specs.Issuing.{refusal_told};
+ghost use Rattle.mapdb_c.specs.RawCommands.{end_command, map_command, unmap_command};
+ghost use Rattle.mapdb_c.specs.RawCommands.{word_map_command, word_unmap_command};
 
 use crate::commands::{
     end_command, map_command, unmap_command, word_map_command, word_unmap_command,
@@ -18,16 +19,15 @@ use crate::handles::Handle;
 use crate::raw_places::{RawFpage, RawSpace, raw_space};
 use crate::statuses::Status;
 use mapdb_facts::Space;
-use mapdb_fpage::{Fpage, MapItem, Rights};
-use mapdb_replica::{Command, IssueFault, Replica, first_number};
+use mapdb_replica::{Applied, Command, IssueFault, Replica, first_number};
 use std::alloc::Global;
 
 /// What a command issued, 24 bytes.
 #[repr(C)]
 #[derive(Clone, Copy)]
 pub struct Issued {
-    /// The number of the first record that a Map issued, 0 where there is none. The numbers rise by one from it, and the
-    /// processor is the copy's.
+    /// The number of the first record that a Map issued, 0 where there is none. The numbers rise by
+    /// one from it, and the processor is the copy's.
     pub first: u64,
     /// How many operations were issued. Where memory was wanted these stand, and are not all.
     pub count: u64,
@@ -61,92 +61,34 @@ fn refusal_told(fault: IssueFault) -> Issued
     }
 }
 
-/// Maps at a copy, and tells what became of it.
-#[tactic(auto, using(crate::proofs::Telling::map_done, crate::proofs::Telling::not_done))]
-fn map_at(
-    replica: &mut Replica,
-    sender: Space,
-    item: &MapItem,
-    receiver: Space,
-    window: Option<Fpage>,
-    issued: &mut Issued,
-) -> Status
-    ensures { IssuesAs map_told (map_outcome replica.old sender item.now receiver window)
-        result issued.new replica.old replica.new }
+/// What is told of a command that a copy applied.
+fn applied_told(applied: &Applied) -> Issued
+    ensures { result ≡ applied_told applied.now }
 {
-    match replica.map(sender, item, receiver, window) {
-        Ok(names) => {
-            *issued = issued_with(first_number(names.as_slice()), names.len() as u64);
-            Status::Done
+    match applied {
+        Applied::Mapped(names) => {
+            issued_with(first_number(names.as_slice()), names.len() as u64)
         }
-        Err(fault) => {
-            *issued = refusal_told(fault);
-            issue_status(fault)
-        }
-    }
-}
-
-/// Takes rights at a copy, and tells what became of it.
-#[tactic(auto, using(crate::proofs::Telling::unmap_done, crate::proofs::Telling::not_done))]
-fn unmap_at(
-    replica: &mut Replica,
-    space: Space,
-    page: Option<Fpage>,
-    rights: Rights,
-    flush: bool,
-    issued: &mut Issued,
-) -> Status
-    ensures { IssuesAs unmap_told (unmap_outcome replica.old space page rights flush)
-        result issued.new replica.old replica.new }
-{
-    match replica.unmap(space, page, rights, flush) {
-        Ok(count) => {
-            *issued = issued_with(0, count as u64);
-            Status::Done
-        }
-        Err(fault) => {
-            *issued = refusal_told(fault);
-            issue_status(fault)
-        }
-    }
-}
-
-/// Ends a space at a copy, and tells what became of it.
-#[tactic(auto, using(crate::proofs::Telling::end_done, crate::proofs::Telling::not_done))]
-fn end_at(replica: &mut Replica, space: Space, issued: &mut Issued) -> Status
-    ensures { IssuesAs end_told (end_outcome replica.old space) result issued.new replica.old replica.new }
-{
-    match replica.end(space) {
-        Ok(()) => {
-            *issued = issued_with(0, 1);
-            Status::Done
-        }
-        Err(fault) => {
-            *issued = refusal_told(fault);
-            issue_status(fault)
-        }
+        Applied::Revoked(count) => issued_with(0, *count as u64),
+        Applied::Ended(_) => issued_with(0, 1),
     }
 }
 
 /// Does a command at a copy, and tells what became of it.
+#[tactic(auto, using(crate::proofs::Telling::all_done, crate::proofs::Telling::not_done))]
 fn issue_at(replica: &mut Replica, command: &Command, issued: &mut Issued) -> Status
-    ensures { IssuesAs (command_told command.now) (command_outcome replica.old command.now)
+    ensures { IssuesAs command.now (command_outcome replica.old command.now)
         result issued.new replica.old replica.new }
 {
-    match command {
-        Command::Map {
-            sender,
-            item,
-            receiver,
-            window,
-        } => map_at(replica, *sender, item, *receiver, *window, issued),
-        Command::Unmap {
-            space,
-            page,
-            rights,
-            flush,
-        } => unmap_at(replica, *space, *page, *rights, *flush, issued),
-        Command::End { space } => end_at(replica, *space, issued),
+    match replica.apply(command) {
+        Ok(applied) => {
+            *issued = applied_told(&applied);
+            Status::Done
+        }
+        Err(fault) => {
+            *issued = refusal_told(fault);
+            issue_status(fault)
+        }
     }
 }
 
@@ -210,8 +152,8 @@ pub extern "C" fn mapdb_map_words(
     issue(alloc, handle, command, issued)
 }
 
-/// Takes the rights of an fpage from all that other spaces received of the space's pages there, and with a flush that is not
-/// 0 from the space too.
+/// Takes the rights of an fpage from all that other spaces received of the space's pages there, and
+/// with a flush that is not 0 from the space too.
 #[unsafe(no_mangle)]
 pub extern "C" fn mapdb_unmap(
     alloc: Global,
@@ -253,7 +195,8 @@ pub extern "C" fn mapdb_end(
     space: RawSpace,
     issued: &mut Issued,
 ) -> u32
-    ensures { IssuesFor (end_command space) handle.old.held result issued.old issued.new handle.new.held }
+    ensures { IssuesFor (end_command space) handle.old.held result issued.old issued.new
+        handle.new.held }
 {
     let command = end_command(space);
     issue(alloc, handle, command, issued)

@@ -1,6 +1,7 @@
 //! The copy of the mapping database for kernels in C.
 //!
-//! A [`handles::Handle`] has a copy or none. Each call takes the copy out of its handle, asks it, and puts it back.
+//! A [`handles::Handle`] has a copy or none. Each call takes the copy out of its handle, asks it,
+//! and puts it back.
 #![tactic(auto)]
 
 mod asking;

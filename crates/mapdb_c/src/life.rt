@@ -3,7 +3,7 @@
 ghost use Rattle.std.specs.Prelude.{◌≡◌, ◌≢◌, ◌⊎◌, ◌↔◌, ◌≤◌};
 ghost use Rattle.std.specs.declared.option.Option.TheVariants.{None, Some};
 ghost use Rattle.mapdb_replica.specs.Replica.{empty};
-ghost use Rattle.mapdb_c.specs.StatusNumbers.{number_of};
+ghost use Rattle.mapdb_c.specs.StatusNumbers.{status_number};
 ghost use Rattle.mapdb_c.specs.declared.statuses.Status.TheVariants as status;
 
 use crate::handles::Handle;
@@ -12,14 +12,16 @@ use mapdb_facts::PROCESSOR_LIMIT;
 use mapdb_replica::Replica;
 use std::alloc::Global;
 
-/// Makes a copy that holds nothing, of this processor. A copy that the handle had is freed, unless this fails.
+/// Makes a copy that holds nothing, of this processor. A copy that the handle had is freed, unless
+/// this fails.
 #[unsafe(no_mangle)]
 pub extern "C" fn mapdb_create(alloc: Global, handle: &mut Handle, processor: u32) -> u32
-    ensures done { result ≡ number_of status.Done → handle.new.held ≡ Some (empty processor) }
-    ensures kept { result ≢ number_of status.Done → handle.new.held ≡ handle.old.held }
-    ensures bad { result ≡ number_of status.BadProcessor ↔ PROCESSOR_LIMIT ≤ processor }
-    ensures answers { (result ≡ number_of status.Done) ⊎ ((result ≡ number_of status.BadProcessor)
-        ⊎ (result ≡ number_of status.Memory)) }
+    ensures done { result ≡ status_number status.Done → handle.new.held ≡ Some (empty processor) }
+    ensures kept { result ≢ status_number status.Done → handle.new.held ≡ handle.old.held }
+    ensures bad { result ≡ status_number status.BadProcessor ↔ PROCESSOR_LIMIT ≤ processor }
+    ensures answers { (result ≡ status_number status.Done)
+        ⊎ ((result ≡ status_number status.BadProcessor)
+        ⊎ (result ≡ status_number status.Memory)) }
 {
     if processor >= PROCESSOR_LIMIT as u32 {
         return Status::BadProcessor.number();

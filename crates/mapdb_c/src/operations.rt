@@ -3,7 +3,10 @@
 ghost use Rattle.std.specs.Prelude.{◌≡◌, ◌<◌};
 ghost use Rattle.std.specs.declared.result.Result.TheVariants.{Ok};
 ghost use Rattle.mapdb_facts.specs.declared.operations.Op.TheVariants.{Born, Closed, Cut};
-ghost use Rattle.mapdb_c.specs.RawOperations.{HasProcessors, end_of, name_of, operation_of, record_of, revocation_of, written_end, written_operation, written_record, written_revocation};
+ghost use Rattle.mapdb_c.specs.RawOperations.{HasProcessors, end_given, name_given, operation_of};
+ghost use Rattle.mapdb_c.specs.RawOperations.{record_given, revocation_of, written_end};
+ghost use Rattle.mapdb_c.specs.RawOperations.{written_operation, written_record};
+ghost use Rattle.mapdb_c.specs.RawOperations.{written_revocation};
 
 use crate::raw_places::{RawSpace, place_of, raw_space, rights_of, space_of};
 use crate::statuses::Status;
@@ -19,14 +22,15 @@ const REVOCATION: u32 = 2;
 /// The kind of the end of a space.
 const END: u32 = 3;
 
-/// An operation, 64 bytes, as kernels may send it as it stands. A field that the kind does not use is not looked at, and is
-/// written as 0.
+/// An operation, 64 bytes, as kernels may send it as it stands. A field that the kind does not use
+/// is not looked at, and is written as 0.
 #[repr(C)]
 #[derive(Clone, Copy)]
 pub struct RawOperation {
     /// What it is: 1 a record, 2 a revocation, 3 the end of a space.
     pub kind: u32,
-    /// The rights of a record, or those that a revocation takes: 4 to read, 2 to write, 1 to execute, added up.
+    /// The rights of a record, or those that a revocation takes: 4 to read, 2 to write, 1 to
+    /// execute, added up.
     pub rights: u32,
     /// The number of the record, or of the one that loses rights.
     pub number: u64,
@@ -50,7 +54,7 @@ pub struct RawOperation {
 
 /// The name of a record, unless the processor is none.
 fn name_of(number: u64, processor: u32) -> Result<RecordId, Status>
-    ensures { result ≡ name_of number processor }
+    ensures { result ≡ name_given number processor }
 {
     if processor >= PROCESSOR_LIMIT as u32 {
         return Err(Status::BadProcessor);
@@ -63,7 +67,7 @@ fn name_of(number: u64, processor: u32) -> Result<RecordId, Status>
 
 /// The record of an operation of this kind.
 fn record_of(raw: &RawOperation) -> Result<Op, Status>
-    ensures { result ≡ record_of raw.now }
+    ensures { result ≡ record_given raw.now }
 {
     let id = name_of(raw.number, raw.processor)?;
     let space = space_of(raw.space)?;
@@ -96,7 +100,7 @@ fn revocation_of(raw: &RawOperation) -> Result<Op, Status>
 
 /// The end of an operation of this kind.
 fn end_of(raw: &RawOperation) -> Result<Op, Status>
-    ensures { result ≡ end_of raw.now }
+    ensures { result ≡ end_given raw.now }
 {
     let space = space_of(raw.space)?;
     Ok(Op::Closed(space))
@@ -118,8 +122,9 @@ pub fn operation_of(raw: &RawOperation) -> Result<Op, Status>
 #[tactic(auto, using(crate::proofs::ComingBack::record_back))]
 fn written_record(mapping: &Record) -> RawOperation
     ensures written { result ≡ written_record mapping.now }
-    ensures back { mapping.now.id.processor < PROCESSOR_LIMIT → mapping.now.parent.processor < PROCESSOR_LIMIT
-        → record_of result ≡ Ok (Born mapping.now) }
+    ensures back { mapping.now.id.processor < PROCESSOR_LIMIT
+        → mapping.now.parent.processor < PROCESSOR_LIMIT
+        → record_given result ≡ Ok (Born mapping.now) }
 {
     RawOperation {
         kind: RECORD,
@@ -140,7 +145,8 @@ fn written_record(mapping: &Record) -> RawOperation
 #[tactic(auto, using(crate::proofs::ComingBack::revocation_back))]
 fn written_revocation(cut: &Revocation) -> RawOperation
     ensures written { result ≡ written_revocation cut.now }
-    ensures back { cut.now.target.processor < PROCESSOR_LIMIT → revocation_of result ≡ Ok (Cut cut.now) }
+    ensures back { cut.now.target.processor < PROCESSOR_LIMIT
+        → revocation_of result ≡ Ok (Cut cut.now) }
 {
     RawOperation {
         kind: REVOCATION,
@@ -161,7 +167,7 @@ fn written_revocation(cut: &Revocation) -> RawOperation
 #[tactic(auto, using(crate::proofs::ComingBack::end_back))]
 fn written_end(space: Space) -> RawOperation
     ensures written { result ≡ written_end space }
-    ensures back { end_of result ≡ Ok (Closed space) }
+    ensures back { end_given result ≡ Ok (Closed space) }
 {
     RawOperation {
         kind: END,
@@ -178,8 +184,8 @@ fn written_end(space: Space) -> RawOperation
     }
 }
 
-/// The operation as C has it. Where its processors are below 64, as those of each well-formed operation are, it is read again
-/// as it was.
+/// The operation as C has it. Where its processors are below 64, as those of each well-formed
+/// operation are, it is read again as it was.
 pub fn written_operation(op: &Op) -> RawOperation
     ensures written { result ≡ written_operation op.now }
     ensures back { HasProcessors op.now → operation_of result ≡ Ok op.now }

@@ -1,7 +1,8 @@
 //! Spaces and fpages as C has them.
 
 ghost use Rattle.std.specs.Prelude.{◌≡◌, ◌<◌};
-ghost use Rattle.mapdb_c.specs.RawPlaces.{fpage_of, optional_place, place_of, raw_space, rights_of, space_of, window_of};
+ghost use Rattle.mapdb_c.specs.RawPlaces.{fpage_of, optional_place, place_given, raw_space};
+ghost use Rattle.mapdb_c.specs.RawPlaces.{rights_of, space_given, window_of};
 
 use crate::faults::place_status;
 use crate::statuses::Status;
@@ -38,7 +39,7 @@ pub struct RawFpage {
 
 /// The space, unless its number is too great.
 pub fn space_of(raw: RawSpace) -> Result<Space, Status>
-    ensures { result ≡ space_of raw }
+    ensures { result ≡ space_given raw }
 {
     if raw.number >= SPACE_LIMIT {
         return Err(Status::BadSpace);
@@ -75,7 +76,7 @@ pub fn rights_of(value: u32) -> Result<Rights, Status>
 
 /// The place of `2^order` bytes from the address on, or why there is none.
 pub fn place_of(address: u64, order: u32) -> Result<Fpage, Status>
-    ensures { result ≡ place_of address order }
+    ensures { result ≡ place_given address order }
 {
     if order > TOP_ORDER as u32 {
         return Err(Status::TooLarge);
@@ -104,7 +105,8 @@ pub fn window_of(raw: &RawFpage) -> Result<Option<Fpage>, Status>
     optional_place(raw.address, raw.order)
 }
 
-/// The fpage with its rights: no place for nil. A place that is none is told before rights that are none.
+/// The fpage with its rights: no place for nil. A place that is none is told before rights that are
+/// none.
 pub fn fpage_of(raw: &RawFpage) -> Result<(Option<Fpage>, Rights), Status>
     ensures { result ≡ fpage_of raw.now }
 {

@@ -51,10 +51,12 @@ fn operation_at(raw: &RawOperation, place: usize) -> Result<Op, Unread>
     }
 }
 
-/// The operations that those of C's say, or the first that is none. Memory may be wanted in place of either.
+/// The operations that those of C's say, or the first that is none. Memory may be wanted in place
+/// of either.
 pub fn operations_of(alloc: Global, raws: &[RawOperation]) -> Result<Vec<Op>, Unread>
     ensures read { IfOk result (λ ops. operations_from 0 raws.now ≡ Ok ops.items) }
-    ensures err { IfErr result (λ unread. (unread ≡ Memory) ⊎ (operations_from 0 raws.now ≡ Err unread)) }
+    ensures err { IfErr result (λ unread. (unread ≡ Memory)
+        ⊎ (operations_from 0 raws.now ≡ Err unread)) }
 {
     let mut ops = Vec::new(alloc);
     for (place, raw) in raws.iter().enumerate() {

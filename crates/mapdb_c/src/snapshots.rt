@@ -4,9 +4,9 @@ ghost use Rattle.std.specs.Prelude.{◌≡◌, ◌≤◌, ◌++◌, drop, length
 ghost use Rattle.std.specs.declared.option.Option.TheVariants.{None, Some};
 ghost use Rattle.mapdb_replica.specs.Replica.{Log};
 ghost use Rattle.mapdb_snapshot.specs.Snapshot.{snapshot_text};
-ghost use Rattle.mapdb_c.specs.Filling.{Fills, Fits};
+ghost use Rattle.mapdb_c.specs.Filling.{Fills, FitsArray};
 ghost use Rattle.mapdb_c.specs.Loading.{LoadsAs, snapshot_status};
-ghost use Rattle.mapdb_c.specs.StatusNumbers.{Tells, number_of};
+ghost use Rattle.mapdb_c.specs.StatusNumbers.{Tells, status_number};
 ghost use Rattle.mapdb_c.specs.Taking.{taken_with};
 ghost use Rattle.mapdb_c.specs.declared.statuses.Status.TheVariants as status;
 
@@ -44,7 +44,7 @@ fn write_text(text: &[u8], room: &mut [u8])
 /// Writes a text into the caller's array where it has room for it, and tells how long it is.
 #[tactic(auto, using(crate::proofs::Fitting::text_fits, crate::proofs::Fitting::text_does_not_fit))]
 fn fill_text(text: &[u8], room: &mut [u8], count: &mut u64) -> Status
-    ensures { Fits text.now result room.old room.new count.new }
+    ensures { FitsArray text.now result room.old room.new count.new }
 {
     *count = text.len() as u64;
     if text.len() > room.len() {
@@ -75,9 +75,10 @@ pub extern "C" fn mapdb_snapshot(
 ) -> u32
     ensures kept { handle.new.held ≡ handle.old.held }
     ensures none { handle.old.held ≡ None
-        → (result ≡ number_of status.NoCopy) × (room.new ≡ room.old) × (count.new ≡ count.old) }
+        → (result ≡ status_number status.NoCopy) × (room.new ≡ room.old) × (count.new ≡ count.old) }
     ensures text { (log : Log) → handle.old.held ≡ Some log
-        → Tells result (λ answer. Fills (snapshot_text log.ops) answer room.old room.new count.old count.new) }
+        → Tells result (λ answer. Fills (snapshot_text log.ops)
+        answer room.old room.new count.old count.new) }
 {
     let Some(replica) = handle.take(alloc) else {
         return Status::NoCopy.number();
@@ -111,7 +112,8 @@ pub extern "C" fn mapdb_load(
 ) -> u32
     ensures stays { handle.new.held ≡ None → handle.old.held ≡ None }
     ensures none { handle.old.held ≡ None
-        → (result ≡ number_of status.NoCopy) × (taken.new ≡ taken.old) × (handle.new.held ≡ None) }
+        → (result ≡ status_number status.NoCopy) × (taken.new ≡ taken.old)
+        × (handle.new.held ≡ None) }
     ensures loads { (log after : Log) → handle.old.held ≡ Some log → handle.new.held ≡ Some after
         → Tells result (λ answer. LoadsAs text.now answer taken.new log after) }
 {

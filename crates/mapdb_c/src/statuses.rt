@@ -1,7 +1,7 @@
 //! What a call answers.
 
 ghost use Rattle.std.specs.Prelude.{◌≡◌};
-ghost use Rattle.mapdb_c.specs.StatusNumbers.{number_of, status_at};
+ghost use Rattle.mapdb_c.specs.StatusNumbers.{status_number, status_at};
 
 /// What a call answers. C has it as its number, from 0 on in this order.
 #[derive(Clone, Copy, Debug, PartialEq, Eq)]
@@ -20,7 +20,8 @@ pub enum Status {
     NotServed,
     /// A space that a command names has ended.
     SpaceEnded,
-    /// The receiver of a Map, the space of a record or the space that is to end has the first space's number.
+    /// The receiver of a Map, the space of a record or the space that is to end has the first
+    /// space's number.
     RootSpace,
     /// A record would need a number of `2^40` or more.
     NumbersSpent,
@@ -72,7 +73,7 @@ impl Status {
     /// The number that C has for the status.
     #[tactic(auto, unfolding(crate::specs::StatusNumbers::status_at))]
     pub fn number(self) -> u32
-        ensures number { result ≡ number_of self }
+        ensures number { result ≡ status_number self }
         ensures status { status_at result ≡ self }
     {
         match self {

@@ -4,9 +4,9 @@ ghost use Rattle.std.specs.Prelude.{◌≡◌, ◌≤◌, ◌++◌, drop, length
 ghost use Rattle.std.specs.declared.option.Option.TheVariants.{None, Some};
 ghost use Rattle.mapdb_replica.specs.Replica.{Log};
 ghost use Rattle.mapdb_table.specs.Table.{table};
-ghost use Rattle.mapdb_c.specs.Filling.{Fills, Fits};
-ghost use Rattle.mapdb_c.specs.RawRows.{row_of};
-ghost use Rattle.mapdb_c.specs.StatusNumbers.{Tells, number_of};
+ghost use Rattle.mapdb_c.specs.Filling.{Fills, FitsArray};
+ghost use Rattle.mapdb_c.specs.RawRows.{raw_row};
+ghost use Rattle.mapdb_c.specs.StatusNumbers.{Tells, status_number};
 ghost use Rattle.mapdb_c.specs.declared.statuses.Status.TheVariants as status;
 
 use crate::handles::Handle;
@@ -16,7 +16,8 @@ use mapdb_replica::Replica;
 use mapdb_table::{TableRow, build_plain};
 use std::alloc::Global;
 
-/// Pages of a space, one behind the other, that are served from frames that rise by one, with equal rights, 40 bytes.
+/// Pages of a space, one behind the other, that are served from frames that rise by one, with equal
+/// rights, 40 bytes.
 #[repr(C)]
 #[derive(Clone, Copy)]
 pub struct RawRow {
@@ -36,7 +37,7 @@ pub struct RawRow {
 
 /// The row as C has it.
 fn row_of(row: &TableRow) -> RawRow
-    ensures { result ≡ row_of row.now }
+    ensures { result ≡ raw_row row.now }
 {
     RawRow {
         space: raw_space(row.space),
@@ -51,17 +52,18 @@ fn row_of(row: &TableRow) -> RawRow
 /// Writes rows into an array that has room for them.
 fn write_rows(rows: &[TableRow], room: &mut [RawRow])
     requires { length rows.now ≤ length room.old }
-    ensures { room.new ≡ map row_of rows.now ++ drop (length rows.now) room.old }
+    ensures { room.new ≡ map raw_row rows.now ++ drop (length rows.now) room.old }
 {
     for (place, row) in rows.iter().enumerate() {
         room[place] = row_of(row);
     }
 }
 
-/// Writes rows into the caller's array where it has room for all of them, and tells how many they are.
+/// Writes rows into the caller's array where it has room for all of them, and tells how many they
+/// are.
 #[tactic(auto, using(crate::proofs::Fitting::fits, crate::proofs::Fitting::does_not_fit))]
 fn fill_rows(rows: &[TableRow], room: &mut [RawRow], count: &mut u64) -> Status
-    ensures { Fits (map row_of rows.now) result room.old room.new count.new }
+    ensures { FitsArray (map raw_row rows.now) result room.old room.new count.new }
 {
     *count = rows.len() as u64;
     if rows.len() > room.len() {
@@ -74,7 +76,8 @@ fn fill_rows(rows: &[TableRow], room: &mut [RawRow], count: &mut u64) -> Status
 /// Writes the table of a copy into the caller's array.
 #[tactic(auto, using(crate::proofs::GivingTold::fills, crate::proofs::GivingTold::fills_none))]
 fn table_at(alloc: Global, replica: &Replica, room: &mut [RawRow], count: &mut u64) -> Status
-    ensures { Fills (map row_of (table replica.now.ops)) result room.old room.new count.old count.new }
+    ensures { Fills (map raw_row (table replica.now.ops))
+        result room.old room.new count.old count.new }
 {
     match build_plain(alloc, replica) {
         Ok(rows) => fill_rows(rows.as_slice(), room, count),
@@ -92,9 +95,10 @@ pub extern "C" fn mapdb_table(
 ) -> u32
     ensures kept { handle.new.held ≡ handle.old.held }
     ensures none { handle.old.held ≡ None
-        → (result ≡ number_of status.NoCopy) × (room.new ≡ room.old) × (count.new ≡ count.old) }
+        → (result ≡ status_number status.NoCopy) × (room.new ≡ room.old) × (count.new ≡ count.old) }
     ensures table { (log : Log) → handle.old.held ≡ Some log
-        → Tells result (λ answer. Fills (map row_of (table log.ops)) answer room.old room.new count.old count.new) }
+        → Tells result (λ answer. Fills (map raw_row (table log.ops))
+        answer room.old room.new count.old count.new) }
 {
     let Some(replica) = handle.take(alloc) else {
         return Status::NoCopy.number();

@@ -4,8 +4,9 @@ ghost use Rattle.std.specs.Prelude.{◌≡◌};
 ghost use Rattle.std.specs.declared.option.Option.TheVariants.{None, Some};
 ghost use Rattle.mapdb_replica.specs.Replica.{Log};
 ghost use Rattle.mapdb_replica.specs.Taking.{take_outcome};
-ghost use Rattle.mapdb_c.specs.StatusNumbers.{Tells, number_of};
-ghost use Rattle.mapdb_c.specs.Taking.{TakesAs, TakesGiven, fault_told, part_taken, take_status, taken_with, unread_told};
+ghost use Rattle.mapdb_c.specs.StatusNumbers.{Tells, status_number};
+ghost use Rattle.mapdb_c.specs.Taking.{TakesAs, TakesGiven, fault_told, part_taken, take_status};
+ghost use Rattle.mapdb_c.specs.Taking.{taken_with, unread_told};
 ghost use Rattle.mapdb_c.specs.declared.statuses.Status.TheVariants as status;
 
 use crate::faults::op_status;
@@ -23,8 +24,8 @@ use std::alloc::Global;
 pub struct Taken {
     /// How many operations were new to the copy, and are held now.
     pub count: u64,
-    /// Of a bad operation its place in the batch, counted from 0; where memory was wanted, of how many first operations
-    /// of the batch what is new stands, which are not all.
+    /// Of a bad operation its place in the batch, counted from 0; where memory was wanted, of how
+    /// many first operations of the batch what is new stands, which are not all.
     pub place: u64,
     /// Of a clash the number of the name.
     pub number: u64,
@@ -93,7 +94,8 @@ fn take_status(fault: TakeFault) -> Status
 /// Takes a batch at a copy, and tells what became of it.
 #[tactic(auto, using(crate::proofs::TakingTold::batch_done, crate::proofs::TakingTold::batch_not_done))]
 pub fn take_at(replica: &mut Replica, batch: &[Op], taken: &mut Taken) -> Status
-    ensures { TakesAs batch.now (take_outcome replica.old.ops batch.now) result taken.new replica.old replica.new }
+    ensures { TakesAs batch.now (take_outcome replica.old.ops batch.now)
+        result taken.new replica.old replica.new }
 {
     match replica.take(batch) {
         Ok(count) => {
@@ -145,7 +147,8 @@ pub extern "C" fn mapdb_take(
 ) -> u32
     ensures stays { handle.new.held ≡ None → handle.old.held ≡ None }
     ensures none { handle.old.held ≡ None
-        → (result ≡ number_of status.NoCopy) × (taken.new ≡ taken.old) × (handle.new.held ≡ None) }
+        → (result ≡ status_number status.NoCopy) × (taken.new ≡ taken.old)
+        × (handle.new.held ≡ None) }
     ensures takes { (log after : Log) → handle.old.held ≡ Some log → handle.new.held ≡ Some after
         → Tells result (λ answer. TakesGiven operations.now answer taken.new log after) }
 {

@@ -14,11 +14,11 @@ use Rattle.mapdb_replica.specs.declared.faults.IssueFault.{IssueFault}
 use Rattle.mapdb_replica.specs.declared.faults.TakeFault.{TakeFault}
 use Rattle.mapdb_replica.specs.declared.faults.TakeFault.TheVariants as fault
 use Rattle.mapdb_tree.specs.Tree.{Tree, first_tree}
-use Rattle.mapdb_sequential.specs.Plain.{GoesOn, IsPlain}
+use Rattle.mapdb_sequential.specs.Plain.{GoesOnWith, IsPlain}
 use Rattle.mapdb_sequential.proofs.PlainLists.{sequential_tree}
 use Rattle.mapdb_cluster.specs.Alone.{IsAlone, RunsAloneAreTrees, commands_of}
 use Rattle.mapdb_cluster.specs.Net.{Done, Net, at_copy, at_processor, delivered, event_done, issue_done, joined, new_net, send_done, take_done, take_refused, taken_at, with_copy}
-use Rattle.mapdb_cluster.specs.Run.{Happens, Loads, Move, after, done_by}
+use Rattle.mapdb_cluster.specs.Run.{Happens, Loads, Move, after, move_done}
 use Rattle.mapdb_cluster.specs.declared.events.Event.TheVariants.{Deliver, Issue, Join, Send}
 use Rattle.mapdb_cluster.specs.declared.events.Reply.TheVariants.{Taken}
 use Rattle.mapdb_cluster.proofs.Slots.{set_apart, set_here}
@@ -36,7 +36,7 @@ issued_net net at log command there =
 -- one command, whatever it comes to, and then the rest
 goes_on : (net : Net) (at : ℕ) (log : Log) (T : Tree) (command : Command) (Rest : Log → Tree → Type 0) (Last : Net → Type 0)
     → ((next : Net) (next_log : Log) (next_tree : Tree) → IsThere at next next_log → Rest next_log next_tree → Last next)
-    → IsThere at net log → (outcome : Result (List Op) IssueFault) → GoesOn log T command Rest outcome
+    → IsThere at net log → (outcome : Result (List Op) IssueFault) → GoesOnWith log T command Rest outcome
     → Last (issue_done net at log command None outcome).net
 goes_on net at log T command Rest Last rest there (Err refusal) is = rest net log T there is
 goes_on net at log T command Rest Last rest there (Ok ops) (free, next, step, is) =
@@ -121,7 +121,7 @@ alone at (Happens (Deliver message to) memory ∷ moves) net log T last T' there
 alone at (Happens (Join into from) memory ∷ moves) net log T last T' there (other, rest) is =
     alone at moves (event_done net (Join into from) memory).net log T last T' (join_stays at log net memory into from other there) rest is
 alone at (Loads to ops memory ∷ moves) net log T last T' there (other, rest) is =
-    alone at moves (done_by net (Loads to ops memory)).net log T last T' (load_stays at log net memory to ops other there) rest is
+    alone at moves (move_done net (Loads to ops memory)).net log T last T' (load_stays at log net memory to ops other there) rest is
 
 -- each processor has an empty copy at first
 empty_there : (first count at : ℕ) → at < count → slice_get (map empty (range_with_len first count)) at ≡ Some (empty (first + at))
@@ -134,7 +134,7 @@ first_there : (count at : ℕ) → at < count → IsThere at (new_net count) (em
 first_there count at few = let same : 0 + at ≡ at = omega arith in empty_there 0 count at few ∙ ap (λ (n : ℕ). Some (empty n)) same
 
 pub runs_alone_are_trees : RunsAloneAreTrees
-runs_alone_are_trees count at moves log T few is_alone are plain = record {
-  there = alone at moves (new_net count) (empty at) first_tree log T (first_there count at few) is_alone plain;
-  nodes = sequential_tree at (commands_of moves) log T are plain;
+runs_alone_are_trees run at log T few is_alone are plain = record {
+  there = alone at run.moves (new_net run.count) (empty at) first_tree log T (first_there run.count at few) is_alone plain;
+  nodes = sequential_tree at (commands_of run.moves) log T are plain;
 }

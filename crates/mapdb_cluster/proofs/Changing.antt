@@ -9,7 +9,7 @@ use Rattle.mapdb_facts.specs.declared.operations.Op.{Op}
 use Rattle.mapdb_facts.specs.declared.operations.Op.TheVariants.{Born, Closed, Cut}
 use Rattle.mapdb_replica.specs.Replica.{Log}
 use Rattle.mapdb_cluster.specs.Honest.{IsIssued}
-use Rattle.mapdb_cluster.specs.Kept.{IsCopyOf, IsKept}
+use Rattle.mapdb_cluster.specs.Kept.{IsCopyOf, IsKeptNet}
 use Rattle.mapdb_cluster.specs.Net.{Net, with_copy}
 use Rattle.mapdb_cluster.proofs.Issuers.{AllIssued, kept_from}
 use Rattle.mapdb_cluster.proofs.Slots.{one_there, set_here, set_other}
@@ -28,7 +28,7 @@ module _ (net : Net) (i : ℕ) (copy new : Log) (is : slice_get net.copies i ≡
           subst (λ (x : Log). P at x) same (subst (λ n. P n new) (eqb-true i at e) one)
       by_place false e = others at c (sym (set_other net.copies i at new e) ∙ there)
 
-module _ (net : Net) (kept : IsKept net) (i : ℕ) (copy new : Log) (is : slice_get net.copies i ≡ Some copy) (is_copy : IsCopyOf i new)
+module _ (net : Net) (kept : IsKeptNet net) (i : ℕ) (copy new : Log) (is : slice_get net.copies i ≡ Some copy) (is_copy : IsCopyOf i new)
     (more : (op : Op) → IsAmong op copy.own → IsAmong op new.own) where
   abbrev changed : Net
   changed = with_copy net i new
@@ -58,7 +58,7 @@ module _ (net : Net) (kept : IsKept net) (i : ℕ) (copy new : Log) (is : slice_
   own_issued (Closed space) among = (i, new, set_here net.copies i copy new is, among)
 
   -- the new copy holds what was issued before, and what is its own
-  pub changed_kept : ((op : Op) → IsAmong op new.ops → IsIssued net op ⊎ IsAmong op new.own) → IsKept changed
+  pub changed_kept : ((op : Op) → IsAmong op new.ops → IsIssued net op ⊎ IsAmong op new.own) → IsKeptNet changed
   changed_kept holds =
       let many : length (slice_set net.copies i new) ≤ processor_limit = subst (λ n. n ≤ processor_limit) (sym (length-set net.copies i new)) kept.few in
       kept_from changed (each_changed net i copy new is IsCopyOf is_copy kept.copies) many

@@ -16,7 +16,7 @@ use Rattle.mapdb_replica.specs.declared.commands.Command.{Command}
 use Rattle.mapdb_replica.specs.declared.faults.IssueFault.{IssueFault}
 use Rattle.mapdb_replica.proofs.FormedIssues.{issues_are_formed}
 use Rattle.mapdb_cluster.specs.Honest.{AllTrusted, AreEvents, HonestRuns, IsEvent}
-use Rattle.mapdb_cluster.specs.Kept.{IsCopyOf, IsKept}
+use Rattle.mapdb_cluster.specs.Kept.{IsCopyOf, IsKeptNet}
 use Rattle.mapdb_cluster.specs.Net.{Done, Net, at_copy, at_processor, event_done, issue_done, new_net, with_copy}
 use Rattle.mapdb_cluster.specs.Run.{Happens, Loads, Move, after, replies}
 use Rattle.mapdb_cluster.specs.declared.events.Event.{Event}
@@ -46,7 +46,7 @@ below_length (y ∷ ys) (suc i) x there = let below = below_length ys i x there 
 
 -- A copy that issues.
 
-module _ (net : Net) (kept : IsKept net) (placed : EachHeld HasPlace net) where
+module _ (net : Net) (kept : IsKeptNet net) (placed : EachHeld HasPlace net) where
   formed_here : AllFormed net
   formed_here at copy there = (kept.copies at copy there).formed
 
@@ -114,7 +114,7 @@ length_new : (first count : ℕ) → length (map empty (range_with_len first cou
 length_new first zero = refl
 length_new first (suc count) = ap suc (length_new (first + 1) count)
 
-pub new_kept : (count : ℕ) → count ≤ processor_limit → IsKept (new_net count)
+pub new_kept : (count : ℕ) → count ≤ processor_limit → IsKeptNet (new_net count)
 new_kept count few =
     kept_from (new_net count) copies (omega (arith, few, length_new 0 count))
     (λ at copy there op among. absurd (subst (λ (c : Log). IsAmong op c.ops) (empty_is 0 count at copy there) among))
@@ -133,7 +133,7 @@ new_placed count at copy there op among = absurd (subst (λ (c : Log). IsAmong o
 
 -- a net that is kept, in which each record has a place
 pub record IsGood (net : Net) : Type 0 where
-  pub kept : IsKept net
+  pub kept : IsKeptNet net
   pub placed : EachHeld HasPlace net
 
 pub good_from : (net : Net) (moves : List Move) → IsGood net → AreEvents moves → IsGood (after net moves) × AllTrusted (replies net moves)
@@ -148,4 +148,4 @@ pub new_good : (count : ℕ) → count ≤ processor_limit → IsGood (new_net c
 new_good count few = record { kept = new_kept count few; placed = new_placed count }
 
 pub honest_runs : HonestRuns
-honest_runs count moves few are = let runs = good_from (new_net count) moves (new_good count few) are in (runs.0.kept.honest, runs.1)
+honest_runs run few are = let runs = good_from (new_net run.count) run.moves (new_good run.count few) are in (runs.0.kept.honest, runs.1)

@@ -26,7 +26,7 @@ use Rattle.mapdb_replica.proofs.FormedIssues.{issues_are_named}
 use Rattle.mapdb_replica.proofs.SoundIssues.{issues_are_sound}
 use Rattle.mapdb_replica.proofs.SoundTakes.{no_clash_is_sound, taken_parts}
 use Rattle.mapdb_cluster.specs.Honest.{IsIssued, IsTrusted}
-use Rattle.mapdb_cluster.specs.Kept.{IsKept}
+use Rattle.mapdb_cluster.specs.Kept.{IsKeptNet}
 use Rattle.mapdb_cluster.specs.Net.{Done, Net, at_copy, at_processor, delivered, event_done, issue_done, issue_reply, joined, refused, send_done, take_done, take_refused, taken_at, with_copy, with_message}
 use Rattle.mapdb_cluster.specs.Steps.{Steps, wanted}
 use Rattle.mapdb_cluster.specs.declared.events.Event.{Event}
@@ -48,7 +48,7 @@ EachHeld P net = (at : ℕ) (copy : Log) → slice_get net.copies at ≡ Some co
 
 -- what an event comes to keeps what is kept and what is so of each operation, and refuses no operation as bad, nor for a clash
 pub record Does (P : Op → Type 0) (done : Done) : Type 0 where
-  pub kept : IsKept done.net
+  pub kept : IsKeptNet done.net
   pub each : EachHeld P done.net
   pub trusted : IsTrusted done.reply
 
@@ -96,14 +96,14 @@ given_among ops xs first end is op among = by_marks (nat_le first end && nat_le 
         among_drop ops first op (among_take (drop first ops) (end - first) op (subst (λ (ys : List Op). IsAmong op ys) (sym same) among))
     by_marks false e = absurd (given_err xs e)
 
-module _ (P : Op → Type 0) (net : Net) (kept : IsKept net) (each : EachHeld P net) where
+module _ (P : Op → Type 0) (net : Net) (kept : IsKeptNet net) (each : EachHeld P net) where
   refused_does : (why : Refusal) → IsTrusted (Refused why) → Does P (refused net why)
   refused_does why trusted = record { kept = kept; each = each; trusted = trusted }
 
   -- A command.
 
   issued_kept : (at : ℕ) (copy : Log) (command : Command) (issued part : List Op) → slice_get net.copies at ≡ Some copy → command_outcome copy command ≡ Ok issued → ((op : Op) → IsAmong op part → IsAmong op issued)
-      → IsSound (copy.ops ++ part) → all_formed (copy.ops ++ part) ≡ true → IsKept (with_copy net at (with_issued copy part))
+      → IsSound (copy.ops ++ part) → all_formed (copy.ops ++ part) ≡ true → IsKeptNet (with_copy net at (with_issued copy part))
   issued_kept at copy command issued part there is within sound formed =
       changed_kept net kept at copy (with_issued copy part) there
       (record {
@@ -153,7 +153,7 @@ module _ (P : Op → Type 0) (net : Net) (kept : IsKept net) (each : EachHeld P 
       by_part (inl before) = kept.honest.held at copy op there before
       by_part (inr later) = all op later
 
-  taken_kept : (at : ℕ) (copy : Log) (part : List Op) → slice_get net.copies at ≡ Some copy → AllIssued net part → IsKept (with_copy net at (with_taken copy part))
+  taken_kept : (at : ℕ) (copy : Log) (part : List Op) → slice_get net.copies at ≡ Some copy → AllIssued net part → IsKeptNet (with_copy net at (with_taken copy part))
   taken_kept at copy part there all =
       changed_kept net kept at copy (with_taken copy part) there
       (record {
@@ -203,7 +203,7 @@ module _ (P : Op → Type 0) (net : Net) (kept : IsKept net) (each : EachHeld P 
   message_issued ops (Cut cut) by = by
   message_issued ops (Closed space) by = by
 
-  sent_kept : (ops : List Op) → AllIssued net ops → IsKept (with_message net ops)
+  sent_kept : (ops : List Op) → AllIssued net ops → IsKeptNet (with_message net ops)
   sent_kept ops all =
       kept_from (with_message net ops) kept.copies kept.few
       (λ at copy there op among. message_issued ops op (kept.honest.held at copy op there among))
@@ -262,23 +262,23 @@ module _ (P : Op → Type 0) (net : Net) (kept : IsKept net) (each : EachHeld P 
       by_place copy there other here false = taken_does memory into other.ops copy there (λ op among. kept.honest.held from other op here among)
 
 -- what one call of a cluster leaves and answers
-module _ (net : Net) (kept : IsKept net) where
+module _ (net : Net) (kept : IsKeptNet net) where
   -- nothing more is so of each operation
   abbrev Nothing : Op → Type 0
   Nothing op = Unit {0}
 
-  stepped : (event : Event) (reply : Reply) (new : Net) → Steps net event reply new → Does Nothing (event_done net event (wanted reply)) → IsKept new × IsTrusted reply
-  stepped event reply new step does = (subst IsKept step.done does.kept, subst IsTrusted step.replied does.trusted)
+  stepped : (event : Event) (reply : Reply) (new : Net) → Steps net event reply new → Does Nothing (event_done net event (wanted reply)) → IsKeptNet new × IsTrusted reply
+  stepped event reply new step does = (subst IsKeptNet step.done does.kept, subst IsTrusted step.replied does.trusted)
 
-  pub issue_stepped : (at : ℕ) (command : Command) (reply : Reply) (new : Net) → Steps net (Issue at command) reply new → AllFormed new → IsKept new × IsTrusted reply
+  pub issue_stepped : (at : ℕ) (command : Command) (reply : Reply) (new : Net) → Steps net (Issue at command) reply new → AllFormed new → IsKeptNet new × IsTrusted reply
   issue_stepped at command reply new step formed =
       stepped (Issue at command) reply new step (issue_event Nothing net kept (λ i copy there op among. tt) at command (wanted reply) (subst AllFormed (sym step.done) formed) (λ i copy there op among. tt))
 
-  pub send_stepped : (from first end : ℕ) (reply : Reply) (new : Net) → Steps net (Send from first end) reply new → IsKept new × IsTrusted reply
+  pub send_stepped : (from first end : ℕ) (reply : Reply) (new : Net) → Steps net (Send from first end) reply new → IsKeptNet new × IsTrusted reply
   send_stepped from first end reply new step = stepped (Send from first end) reply new step (send_event Nothing net kept (λ i copy there op among. tt) from first end (wanted reply))
 
-  pub deliver_stepped : (message to : ℕ) (reply : Reply) (new : Net) → Steps net (Deliver message to) reply new → IsKept new × IsTrusted reply
+  pub deliver_stepped : (message to : ℕ) (reply : Reply) (new : Net) → Steps net (Deliver message to) reply new → IsKeptNet new × IsTrusted reply
   deliver_stepped message to reply new step = stepped (Deliver message to) reply new step (deliver_event Nothing net kept (λ i copy there op among. tt) message to (wanted reply))
 
-  pub join_stepped : (into from : ℕ) (reply : Reply) (new : Net) → Steps net (Join into from) reply new → IsKept new × IsTrusted reply
+  pub join_stepped : (into from : ℕ) (reply : Reply) (new : Net) → Steps net (Join into from) reply new → IsKeptNet new × IsTrusted reply
   join_stepped into from reply new step = stepped (Join into from) reply new step (join_event Nothing net kept (λ i copy there op among. tt) into from (wanted reply))

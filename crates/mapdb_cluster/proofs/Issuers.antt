@@ -11,7 +11,7 @@ use Rattle.mapdb_facts.specs.declared.operations.Op.TheVariants.{Born, Closed, C
 use Rattle.mapdb_facts.specs.declared.operations.Record.{Record}
 use Rattle.mapdb_replica.specs.Replica.{Log}
 use Rattle.mapdb_cluster.specs.Honest.{IsIssued}
-use Rattle.mapdb_cluster.specs.Kept.{IsCopyOf, IsKept}
+use Rattle.mapdb_cluster.specs.Kept.{IsCopyOf, IsKeptNet}
 use Rattle.mapdb_cluster.specs.Net.{Net}
 use Rattle.mapdb_cluster.proofs.Among.{among_atom, atom_among, formed_among, formed_each}
 use Rattle.mapdb_cluster.proofs.Slots.{one_there}
@@ -54,7 +54,7 @@ module _ (net : Net) (copies : AreCopies net) where
 
   -- what is held and sent was issued, so the net is honest
   pub kept_from : length net.copies ≤ processor_limit → ((at : ℕ) (copy : Log) → slice_get net.copies at ≡ Some copy → AllIssued net copy.ops)
-      → ((message : ℕ) (batch : List Op) → slice_get net.messages message ≡ Some batch → AllIssued net batch) → IsKept net
+      → ((message : ℕ) (batch : List Op) → slice_get net.messages message ≡ Some batch → AllIssued net batch) → IsKeptNet net
   kept_from few held sent = record {
     few = few;
     copies = copies;

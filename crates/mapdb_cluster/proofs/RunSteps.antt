@@ -4,18 +4,18 @@ use Rattle.std.specs.Prelude.{Option, None, false, is_some}
 use Rattle.std.proofs.lemmas.Bool.{true≢false}
 use Rattle.mapdb_cluster.specs.Honest.{AllTrusted, IsTrusted}
 use Rattle.mapdb_cluster.specs.Net.{Net, event_done}
-use Rattle.mapdb_cluster.specs.Run.{Happens, Move, after, all_done, done_by, replies}
+use Rattle.mapdb_cluster.specs.Run.{Happens, Move, after, all_done, move_done, replies}
 use Rattle.mapdb_cluster.specs.Steps.{Steps, wanted}
 use Rattle.mapdb_cluster.specs.declared.events.Event.{Event}
 use Rattle.mapdb_cluster.specs.declared.events.Reply.{Reply}
 
 after-append : (net : Net) (xs ys : List Move) → after net (xs ++ ys) ≡ after (after net xs) ys
 after-append net [] ys = refl
-after-append net (move ∷ xs) ys = after-append (done_by net move).net xs ys
+after-append net (move ∷ xs) ys = after-append (move_done net move).net xs ys
 
 replies-append : (net : Net) (xs ys : List Move) → replies net (xs ++ ys) ≡ replies net xs ++ replies (after net xs) ys
 replies-append net [] ys = refl
-replies-append net (move ∷ xs) ys = ap (λ (rs : List Reply). (done_by net move).reply ∷ rs) (replies-append (done_by net move).net xs ys)
+replies-append net (move ∷ xs) ys = ap (λ (rs : List Reply). (move_done net move).reply ∷ rs) (replies-append (move_done net move).net xs ys)
 
 all_done-append : (xs ys : List Event) → all_done (xs ++ ys) ≡ all_done xs ++ all_done ys
 all_done-append [] ys = refl

@@ -13,9 +13,9 @@ use Rattle.mapdb_replica.specs.Agreement.{knows_all}
 use Rattle.mapdb_replica.specs.Replica.{Log, empty}
 use Rattle.mapdb_replica.proofs.Agreeing.{covers_known, look_alike}
 use Rattle.mapdb_replica.proofs.Bounding.{merge_is_least}
-use Rattle.mapdb_cluster.specs.Laws.{AreSound, CopiesAgree, JoinIsLeast, NoEscalation, SchedulesAreExact}
+use Rattle.mapdb_cluster.specs.Laws.{AreSound, CopiesAgree, CopyJoinIsLeast, NoEscalation, SchedulesAreExact}
 use Rattle.mapdb_cluster.specs.Net.{Done, Net, new_net}
-use Rattle.mapdb_cluster.specs.Run.{Move, after, done_by, took, took_by}
+use Rattle.mapdb_cluster.specs.Run.{Move, after, move_done, took, took_by, took_in}
 use Rattle.mapdb_cluster.proofs.Holding.{same_trans, same_turned}
 use Rattle.mapdb_cluster.proofs.Slots.{none_some, one_there}
 use Rattle.mapdb_cluster.proofs.Stepping.{move_hold}
@@ -37,7 +37,7 @@ nothing_more xs atom = (λ has. atom_left xs [] atom has, λ has. first (atom_ap
 pub schedules_are_exact : SchedulesAreExact
 schedules_are_exact net [] sound at before there = record { copy = before; there = there; atoms = nothing_more before.ops; sound = sound at before there }
 schedules_are_exact net (move ∷ moves) sound at before there =
-    let done : Done = done_by net move in
+    let done : Done = move_done net move in
     let one = move_hold net sound move in
     let held = one.hold at before there in
     let rest = schedules_are_exact done.net moves one.sound at held.copy held.there in
@@ -54,7 +54,7 @@ schedules_are_exact net (move ∷ moves) sound at before there =
 -- there are no more copies than there were
 absent_after : (net : Net) (moves : List Move) (at : ℕ) → AreSound net → slice_get net.copies at ≡ None → slice_get (after net moves).copies at ≡ None
 absent_after net [] at sound gone = gone
-absent_after net (move ∷ moves) at sound gone = let one = move_hold net sound move in absent_after (done_by net move).net moves at one.sound (one.absent at gone)
+absent_after net (move ∷ moves) at sound gone = let one = move_hold net sound move in absent_after (move_done net move).net moves at one.sound (one.absent at gone)
 
 -- at the start no copy holds anything
 empty_at : (first count at : ℕ) (copy : Log) → slice_get (map empty (range_with_len first count)) at ≡ Some copy → copy.ops ≡ []
@@ -91,13 +91,13 @@ run_holds count moves at copy there = by_start (slice_get (new_net count).copies
         }
 
 pub copies_agree : CopiesAgree
-copies_agree count other_count moves other_moves at other copy other_copy is =
-    let mine = run_holds count moves at copy is.there in
-    let yours = run_holds other_count other_moves other other_copy is.other_there in
+copies_agree run another at other copy other_copy there other_there same_took =
+    let mine = run_holds run.count run.moves at copy there in
+    let yours = run_holds another.count another.moves other other_copy other_there in
     let same : SameAtoms copy.ops other_copy.ops =
-    same_trans copy.ops (took (new_net count) moves at) other_copy.ops mine.atoms
-    (same_trans (took (new_net count) moves at) (took (new_net other_count) other_moves other) other_copy.ops is.same_took
-    (same_turned other_copy.ops (took (new_net other_count) other_moves other) yours.atoms)) in
+    same_trans copy.ops (took_in run at) other_copy.ops mine.atoms
+    (same_trans (took_in run at) (took_in another other) other_copy.ops same_took
+    (same_turned other_copy.ops (took_in another other) yours.atoms)) in
     record {
       atoms = same;
       alike = look_alike copy.ops other_copy.ops mine.sound same;
@@ -107,8 +107,8 @@ copies_agree count other_count moves other_moves at other copy other_copy is =
           (covers_known other_copy.ops copy.ops yours.sound (λ atom has. (same atom).0 has));
     }
 
-pub join_is_least : JoinIsLeast
-join_is_least copy ops run formed = merge_is_least copy.ops ops (run_holds run.0 run.1 run.2 copy run.3).sound formed
+pub join_is_least : CopyJoinIsLeast
+join_is_least copy ops run formed = merge_is_least copy.ops ops (run_holds run.0.count run.0.moves run.1 copy run.2).sound formed
 
 pub no_escalation : NoEscalation
 no_escalation copy id page right run has other =

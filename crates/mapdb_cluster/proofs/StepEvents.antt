@@ -6,7 +6,6 @@ use Rattle.mapdb_facts.specs.declared.operations.Op.{Op}
 use Rattle.mapdb_replica.specs.Commands.{command_outcome}
 use Rattle.mapdb_replica.specs.Giving.{given}
 use Rattle.mapdb_replica.specs.Replica.{Log}
-use Rattle.mapdb_replica.specs.Taking.{take_outcome}
 use Rattle.mapdb_replica.specs.declared.commands.Command.{Command}
 use Rattle.mapdb_replica.specs.declared.faults.GiveFault.{GiveFault}
 use Rattle.mapdb_replica.specs.declared.faults.GiveFault.TheVariants as give
@@ -46,11 +45,11 @@ module _ (net : Net) where
       (λ memory. at_there into copy (λ c. at_processor net from (λ other. joined net memory into from c other)) there ∙ ap (λ (o : Option Log). at_copy net o (λ other. joined net memory into from copy other)) gone)
       (refused_tells net refusal.NoProcessor)
 
-  pub issue_step : (at : ℕ) (copy new : Log) (command : Command) (reply : Reply) → slice_get net.copies at ≡ Some copy → Commands command (command_outcome copy command) reply copy new → Steps net (Issue at command) reply (with_copy net at new)
+  pub issue_step : (at : ℕ) (copy new : Log) (command : Command) (reply : Reply) → slice_get net.copies at ≡ Some copy → Commands command copy reply new → Steps net (Issue at command) reply (with_copy net at new)
   issue_step at copy new command reply there is =
       tells_step net (Issue at command) (λ memory. issue_done net at copy command memory (command_outcome copy command)) reply (with_copy net at new)
       (λ memory. at_there at copy (λ c. issue_done net at c command memory (command_outcome c command)) there)
-      (command_tells net at copy new command there (command_outcome copy command) reply is)
+      (command_tells net at copy new command there reply is)
 
   pub deliver_missing : (message to : ℕ) (copy : Log) → slice_get net.copies to ≡ Some copy → slice_get net.messages message ≡ None → Steps net (Deliver message to) (Refused refusal.NoMessage) net
   deliver_missing message to copy there gone =
@@ -58,12 +57,12 @@ module _ (net : Net) where
       (λ memory. at_there to copy (λ c. delivered net memory to (slice_get net.messages message) c) there ∙ ap (λ (o : Option (List Op)). delivered net memory to o copy) gone)
       (refused_tells net refusal.NoMessage)
 
-  pub deliver_step : (message to : ℕ) (copy new : Log) (batch : List Op) (reply : Reply) → slice_get net.copies to ≡ Some copy → slice_get net.messages message ≡ Some batch → TakesWith batch (take_outcome copy.ops batch) reply copy new
+  pub deliver_step : (message to : ℕ) (copy new : Log) (batch : List Op) (reply : Reply) → slice_get net.copies to ≡ Some copy → slice_get net.messages message ≡ Some batch → TakesWith batch copy reply new
       → Steps net (Deliver message to) reply (with_copy net to new)
   deliver_step message to copy new batch reply there sent is =
       tells_step net (Deliver message to) (λ memory. taken_at net memory to batch copy) reply (with_copy net to new)
       (λ memory. at_there to copy (λ c. delivered net memory to (slice_get net.messages message) c) there ∙ ap (λ (o : Option (List Op)). delivered net memory to o copy) sent)
-      (take_tells net to copy new batch there (take_outcome copy.ops batch) reply refl is)
+      (take_tells net to copy new batch there reply is)
 
   joined_where : (memory : Option ℕ) (into from : ℕ) (copy other : Log) (b : Bool) → (into == from) ≡ b
       → joined net memory into from copy other ≡ (if b then record { reply = Taken 0; net = net; taker = into; took = copy.ops } else taken_at net memory into other.ops copy)
@@ -73,14 +72,14 @@ module _ (net : Net) where
   apart_false into from apart true e = absurd (apart (eqb-true into from e))
   apart_false into from apart false e = e
 
-  pub join_step : (into from : ℕ) (copy other new : Log) (reply : Reply) → slice_get net.copies into ≡ Some copy → slice_get net.copies from ≡ Some other → (into ≢ from) → TakesWith other.ops (take_outcome copy.ops other.ops) reply copy new
+  pub join_step : (into from : ℕ) (copy other new : Log) (reply : Reply) → slice_get net.copies into ≡ Some copy → slice_get net.copies from ≡ Some other → (into ≢ from) → TakesWith other.ops copy reply new
       → Steps net (Join into from) reply (with_copy net into new)
   join_step into from copy other new reply there here apart is =
       tells_step net (Join into from) (λ memory. taken_at net memory into other.ops copy) reply (with_copy net into new)
       (λ memory. at_there into copy (λ c. at_processor net from (λ o. joined net memory into from c o)) there
       ∙ at_there from other (λ o. joined net memory into from copy o) here
       ∙ joined_where memory into from copy other false (apart_false into from apart (into == from) refl))
-      (take_tells net into copy new other.ops there (take_outcome copy.ops other.ops) reply refl is)
+      (take_tells net into copy new other.ops there reply is)
 
   pub join_itself : (into from : ℕ) (copy : Log) → slice_get net.copies into ≡ Some copy → into ≡ from → Steps net (Join into from) (Taken 0) net
   join_itself into from copy there same =

@@ -1,5 +1,5 @@
 -- One event at one copy, told in the net.
-use Rattle.std.proofs.Common.{◌≡◌, ℕ, zero, suc, ◌<◌, Err, Ok, Result, Some, refl, sym, subst, ap, ◌∙◌, inl, inr, List, [], ◌∷◌, length}
+use Rattle.std.proofs.Common.{◌≡◌, ℕ, zero, suc, ◌<◌, Err, Ok, Result, Some, refl, sym, subst, ap, ◌∙◌, inl, inr, List, [], ◌∷◌, length, take}
 use Rattle.std.specs.Prelude.{◌+◌, Bool, true, false, Option, None, count_by, nat_lt, slice_get, slice_set, if◌then◌else◌}
 use Rattle.std.specs.Option.{option_map, option_or}
 use Rattle.mapdb_facts.specs.Adding.{is_new}
@@ -8,15 +8,19 @@ use Rattle.mapdb_facts.specs.declared.checking.OpFault.{OpFault}
 use Rattle.mapdb_facts.specs.declared.names.RecordId.{RecordId}
 use Rattle.mapdb_facts.specs.State.{state_of}
 use Rattle.mapdb_facts.specs.declared.operations.Op.{Op}
-use Rattle.mapdb_replica.specs.Replica.{Log, most_operations, news, with_issued}
-use Rattle.mapdb_replica.specs.Taking.{IsRefusedAs, bad_at, first_bad, least_clash, take_outcome, taken_unless, with_taken}
+use Rattle.mapdb_replica.specs.Commands.{Applies, IsAnswer, command_outcome}
+use Rattle.mapdb_replica.specs.Replica.{Log, first_number, most_operations, news, with_issued}
+use Rattle.mapdb_replica.specs.Taking.{IsRefusedAs, Takes, bad_at, first_bad, least_clash, take_outcome, taken_unless, with_taken}
+use Rattle.mapdb_replica.specs.declared.commands.Applied.{Applied}
+use Rattle.mapdb_replica.specs.declared.commands.Applied.TheVariants as applied
 use Rattle.mapdb_replica.specs.declared.commands.Command.{Command}
 use Rattle.mapdb_replica.specs.declared.commands.Command.TheVariants.{End, Map, Unmap}
 use Rattle.mapdb_replica.specs.declared.faults.IssueFault.{IssueFault}
+use Rattle.mapdb_replica.specs.declared.faults.IssueFault.TheVariants as issue
 use Rattle.mapdb_replica.specs.declared.faults.TakeFault.{TakeFault}
 use Rattle.mapdb_replica.specs.declared.faults.TakeFault.TheVariants as take_fault
 use Rattle.mapdb_cluster.specs.Net.{Done, Net, event_done, issue_done, issue_reply, refused, take_done, take_refused, with_copy}
-use Rattle.mapdb_cluster.specs.Steps.{Commands, IsPart, Steps, TakesWith, wanted}
+use Rattle.mapdb_cluster.specs.Steps.{Commands, LastsForPart, Steps, TakesWith, applied_reply, taken_reply, wanted}
 use Rattle.mapdb_cluster.specs.declared.events.Event.{Event}
 use Rattle.mapdb_cluster.specs.declared.events.Refusal.{Refusal}
 use Rattle.mapdb_cluster.specs.declared.events.Refusal.TheVariants as refusal
@@ -27,14 +31,14 @@ use Rattle.mapdb_cluster.specs.declared.events.Reply.TheVariants.{Ended, Issued,
 pub record Tells (done : Option ℕ → Done) (reply : Reply) (new : Net) : Type 0 where
   pub replied : (done (wanted reply)).reply ≡ reply
   pub left : (done (wanted reply)).net ≡ new
-  pub part : IsPart (wanted reply) (done None)
+  pub part : LastsForPart (wanted reply) (done None)
 
 -- an event that does so is a step
 pub tells_step : (net : Net) (event : Event) (done : Option ℕ → Done) (reply : Reply) (new : Net) → ((memory : Option ℕ) → event_done net event memory ≡ done memory) → Tells done reply new → Steps net event reply new
 tells_step net event done reply new is tells = record {
   replied = ap (λ (d : Done). d.reply) (is (wanted reply)) ∙ tells.replied;
   done = ap (λ (d : Done). d.net) (is (wanted reply)) ∙ tells.left;
-  part = subst (IsPart (wanted reply)) (sym (is None)) tells.part;
+  part = subst (LastsForPart (wanted reply)) (sym (is None)) tells.part;
 }
 
 same_some : (a b : Log) → Some a ≡ Some b → b ≡ a
@@ -52,7 +56,7 @@ with_same net at copy new there same =
     λ i. record { copies = copies i; messages = net.messages }
 
 -- a refusal, which is no want of memory or is one that is told as such
-refused_part : (memory : Option ℕ) (net : Net) (why : Refusal) → IsPart memory (refused net why)
+refused_part : (memory : Option ℕ) (net : Net) (why : Refusal) → LastsForPart memory (refused net why)
 refused_part None net why = tt
 refused_part (Some n) net why = tt
 
@@ -61,7 +65,7 @@ refused_tells net why = record { replied = refl; left = refl; part = refused_par
 
 -- A command.
 
-issue_part : (net : Net) (at : ℕ) (copy : Log) (command : Command) (ops : List Op) (n : ℕ) → n < length ops → IsPart (Some n) (issue_done net at copy command None (Ok ops))
+issue_part : (net : Net) (at : ℕ) (copy : Log) (command : Command) (ops : List Op) (n : ℕ) → n < length ops → LastsForPart (Some n) (issue_done net at copy command None (Ok ops))
 issue_part net at copy (Map sender item receiver window) ops n few = few
 issue_part net at copy (Unmap space page rights flush) ops n few = few
 issue_part net at copy (End space) ops n few = few
@@ -71,6 +75,18 @@ issue_full (Map sender item receiver window) ops = refl
 issue_full (Unmap space page rights flush) ops = refl
 issue_full (End space) ops = refl
 
+-- what was applied is replied as what the command is replied
+answer_reply : (command : Command) (ops : List Op) (applied : Applied) → IsAnswer command ops applied → applied_reply (Ok applied) ≡ issue_reply command ops
+answer_reply (Map sender item receiver window) ops (applied.Mapped names) is = ap (λ (ids : List RecordId). Issued (first_number ids) (length ids)) is
+answer_reply (Map sender item receiver window) ops (applied.Revoked count) is = absurd is
+answer_reply (Map sender item receiver window) ops (applied.Ended ended) is = absurd is
+answer_reply (Unmap space page rights flush) ops (applied.Mapped names) is = absurd is
+answer_reply (Unmap space page rights flush) ops (applied.Revoked count) is = ap Revoked is
+answer_reply (Unmap space page rights flush) ops (applied.Ended ended) is = absurd is
+answer_reply (End space) ops (applied.Mapped names) is = absurd is
+answer_reply (End space) ops (applied.Revoked count) is = absurd is
+answer_reply (End space) ops (applied.Ended ended) is = refl
+
 module _ (net : Net) (at : ℕ) (copy new : Log) (command : Command) (there : slice_get net.copies at ≡ Some copy) where
   all_issued : (ops : List Op) (reply : Reply) → reply ≡ issue_reply command ops → new ≡ with_issued copy ops → Tells (λ memory. issue_done net at copy command memory (Ok ops)) reply (with_copy net at new)
   all_issued ops reply is left =
@@ -78,21 +94,28 @@ module _ (net : Net) (at : ℕ) (copy new : Log) (command : Command) (there : sl
       record {
         replied = ap (λ (memory : Option ℕ). (issue_done net at copy command memory (Ok ops)).reply) none ∙ sym is;
         left = ap (λ (memory : Option ℕ). (issue_done net at copy command memory (Ok ops)).net) none ∙ ap (with_copy net at) (sym left);
-        part = subst (λ (memory : Option ℕ). IsPart memory (issue_done net at copy command None (Ok ops))) (sym none) tt;
+        part = subst (λ (memory : Option ℕ). LastsForPart memory (issue_done net at copy command None (Ok ops))) (sym none) tt;
       }
 
-  pub command_tells : (o : Result (List Op) IssueFault) (reply : Reply) → Commands command o reply copy new → Tells (λ memory. issue_done net at copy command memory o) reply (with_copy net at new)
-  command_tells (Err fault) reply is =
-      subst (λ (r : Reply). Tells (λ memory. refused net (refusal.Issue fault)) r (with_copy net at new)) (sym is.0)
-      (subst (λ (n : Net). Tells (λ memory. refused net (refusal.Issue fault)) (Refused (refusal.Issue fault)) n) (sym (with_same net at copy new there is.1)) (refused_tells net (refusal.Issue fault)))
-  command_tells (Ok ops) (Refused why) is =
-      subst (λ (w : Refusal). Tells (λ memory. issue_done net at copy command memory (Ok ops)) (Refused w) (with_copy net at new)) (sym is.1)
-      (record { replied = refl; left = ap (with_copy net at) (sym is.3); part = issue_part net at copy command ops is.0 is.2 })
-  command_tells (Ok ops) (Issued first count) is = all_issued ops (Issued first count) is.0 is.1
-  command_tells (Ok ops) (Revoked count) is = all_issued ops (Revoked count) is.0 is.1
-  command_tells (Ok ops) Ended is = all_issued ops Ended is.0 is.1
-  command_tells (Ok ops) (Sent message count) is = all_issued ops (Sent message count) is.0 is.1
-  command_tells (Ok ops) (Taken count) is = all_issued ops (Taken count) is.0 is.1
+  part_issued : (ops : List Op) (n : ℕ) → n < length ops → new ≡ with_issued copy (take n ops) → Tells (λ memory. issue_done net at copy command memory (Ok ops)) (Refused (refusal.Issue (issue.Memory n))) (with_copy net at new)
+  part_issued ops n few left = record { replied = refl; left = ap (with_copy net at) (sym left); part = issue_part net at copy command ops n few }
+
+  applied_tells : (o : Result (List Op) IssueFault) (result : Result Applied IssueFault) → Applies command o result copy new → Tells (λ memory. issue_done net at copy command memory o) (applied_reply result) (with_copy net at new)
+  applied_tells (Err why) (Ok applied) is = absurd is
+  applied_tells (Err why) (Err fault) is =
+      subst (λ (f : IssueFault). Tells (λ memory. refused net (refusal.Issue why)) (Refused (refusal.Issue f)) (with_copy net at new)) (sym is.0)
+      (subst (λ (n : Net). Tells (λ memory. refused net (refusal.Issue why)) (Refused (refusal.Issue why)) n) (sym (with_same net at copy new there is.1)) (refused_tells net (refusal.Issue why)))
+  applied_tells (Ok ops) (Ok applied) is = all_issued ops (applied_reply (Ok applied)) (answer_reply command ops applied is.0) is.1
+  applied_tells (Ok ops) (Err (issue.Memory n)) is = part_issued ops n is.0 is.1
+  applied_tells (Ok ops) (Err (issue.SpaceEnded space)) is = absurd is
+  applied_tells (Ok ops) (Err issue.RootSpace) is = absurd is
+  applied_tells (Ok ops) (Err issue.NumbersSpent) is = absurd is
+  applied_tells (Ok ops) (Err issue.Full) is = absurd is
+
+  pub command_tells : (reply : Reply) → Commands command copy reply new → Tells (λ memory. issue_done net at copy command memory (command_outcome copy command)) reply (with_copy net at new)
+  command_tells reply is =
+      subst (λ (r : Reply). Tells (λ memory. issue_done net at copy command memory (command_outcome copy command)) r (with_copy net at new)) (sym is.2)
+      (applied_tells (command_outcome copy command) is.0 is.1)
 
 -- Taking a batch.
 
@@ -139,7 +162,7 @@ module _ (net : Net) (at : ℕ) (copy new : Log) (batch : List Op) (there : slic
       record {
         replied = ap (λ (memory : Option ℕ). (take_done net at copy batch memory (Ok ops)).reply) none ∙ sym is;
         left = ap (λ (memory : Option ℕ). (take_done net at copy batch memory (Ok ops)).net) none ∙ ap (with_copy net at) (sym left);
-        part = subst (λ (memory : Option ℕ). IsPart memory (take_done net at copy batch None (Ok ops))) (sym none) tt;
+        part = subst (λ (memory : Option ℕ). LastsForPart memory (take_done net at copy batch None (Ok ops))) (sym none) tt;
       }
 
   -- the fault that is told for a refusal
@@ -156,15 +179,18 @@ module _ (net : Net) (at : ℕ) (copy new : Log) (batch : List Op) (there : slic
       subst (λ (f : TakeFault). Tells (λ memory. take_refused net memory take_fault.Full) (Refused (refusal.Take f)) net) (sym is) (record { replied = refl; left = refl; part = tt })
   told (take_fault.Memory n) fault real is = absurd (real n refl)
 
-  pub take_tells : (o : Result (List Op) TakeFault) (reply : Reply) → take_outcome copy.ops batch ≡ o → TakesWith batch o reply copy new → Tells (λ memory. take_done net at copy batch memory o) reply (with_copy net at new)
-  take_tells (Err why) reply from is =
-      subst (λ (r : Reply). Tells (λ memory. take_refused net memory why) r (with_copy net at new)) (sym is.2)
-      (subst (λ (n : Net). Tells (λ memory. take_refused net memory why) (Refused (refusal.Take is.0)) n) (sym (with_same net at copy new there is.3)) (told why is.0 (λ n memory. never_memory copy.ops batch n (from ∙ ap (λ (f : TakeFault). Err f) memory)) is.1))
-  take_tells (Ok ops) (Refused why) from is =
-      subst (λ (w : Refusal). Tells (λ memory. take_done net at copy batch memory (Ok ops)) (Refused w) (with_copy net at new)) (sym is.1)
-      (record { replied = refl; left = ap (with_copy net at) (sym is.3); part = is.2 })
-  take_tells (Ok ops) (Issued first count) from is = all_taken ops (Issued first count) is.0 is.1
-  take_tells (Ok ops) (Revoked count) from is = all_taken ops (Revoked count) is.0 is.1
-  take_tells (Ok ops) Ended from is = all_taken ops Ended is.0 is.1
-  take_tells (Ok ops) (Sent message count) from is = all_taken ops (Sent message count) is.0 is.1
-  take_tells (Ok ops) (Taken count) from is = all_taken ops (Taken count) is.0 is.1
+  took_tells : (o : Result (List Op) TakeFault) (result : Result ℕ TakeFault) → take_outcome copy.ops batch ≡ o → Takes batch o result copy new → Tells (λ memory. take_done net at copy batch memory o) (taken_reply result) (with_copy net at new)
+  took_tells (Err why) (Ok count) from is = absurd is
+  took_tells (Err why) (Err fault) from is =
+      subst (λ (n : Net). Tells (λ memory. take_refused net memory why) (Refused (refusal.Take fault)) n) (sym (with_same net at copy new there is.1))
+      (told why fault (λ n memory. never_memory copy.ops batch n (from ∙ ap (λ (f : TakeFault). Err f) memory)) is.0)
+  took_tells (Ok ops) (Ok count) from is = all_taken ops (Taken count) (ap Taken is.0) is.1
+  took_tells (Ok ops) (Err (take_fault.Memory n)) from is = record { replied = refl; left = ap (with_copy net at) (sym is.1); part = is.0 }
+  took_tells (Ok ops) (Err (take_fault.Bad place why)) from is = absurd is
+  took_tells (Ok ops) (Err (take_fault.Clash id)) from is = absurd is
+  took_tells (Ok ops) (Err take_fault.Full) from is = absurd is
+
+  pub take_tells : (reply : Reply) → TakesWith batch copy reply new → Tells (λ memory. take_done net at copy batch memory (take_outcome copy.ops batch)) reply (with_copy net at new)
+  take_tells reply is =
+      subst (λ (r : Reply). Tells (λ memory. take_done net at copy batch memory (take_outcome copy.ops batch)) r (with_copy net at new)) (sym is.2)
+      (took_tells (take_outcome copy.ops batch) is.0 refl is.1)

@@ -20,7 +20,7 @@ use Rattle.mapdb_replica.proofs.SoundIssues.{issues_are_sound}
 use Rattle.mapdb_replica.proofs.SoundTakes.{taken_parts, takes_are_sound}
 use Rattle.mapdb_cluster.specs.Laws.{AreSound}
 use Rattle.mapdb_cluster.specs.Net.{Done, Net, at_copy, at_processor, delivered, event_done, issue_done, issue_reply, joined, refused, send_done, take_done, take_refused, taken_at}
-use Rattle.mapdb_cluster.specs.Run.{Happens, Loads, Move, done_by}
+use Rattle.mapdb_cluster.specs.Run.{Happens, Loads, Move, move_done}
 use Rattle.mapdb_cluster.specs.declared.events.Event.{Event}
 use Rattle.mapdb_cluster.specs.declared.events.Event.TheVariants.{Deliver, Issue, Join, Send}
 use Rattle.mapdb_cluster.specs.declared.events.Refusal.{Refusal}
@@ -111,6 +111,6 @@ module _ (net : Net) (sound : AreSound net) where
       at_hold into (λ copy. at_processor net from (λ other. joined net memory into from copy other)) (λ copy there.
       at_hold from (λ other. joined net memory into from copy other) (λ other here. join_hold memory into from copy other there))
 
-  pub move_hold : (move : Move) → AllHold net (done_by net move)
+  pub move_hold : (move : Move) → AllHold net (move_done net move)
   move_hold (Happens event memory) = event_hold event memory
   move_hold (Loads at ops memory) = at_hold at (λ copy. taken_at net memory at ops copy) (λ copy there. taken_hold memory at ops copy there)

@@ -10,19 +10,19 @@ use Rattle.mapdb_replica.proofs.NewsAtoms.{news_give}
 use Rattle.mapdb_sequential.proofs.Issued.{outcome_ops}
 use Rattle.mapdb_replica.proofs.Reaching.{unmap_reaches}
 use Rattle.mapdb_cluster.specs.Net.{new_net}
-use Rattle.mapdb_cluster.specs.Run.{after}
+use Rattle.mapdb_cluster.specs.Run.{last_net}
 use Rattle.mapdb_cluster.specs.Unmaps.{IssuersHaveTaken, UnmapsReach}
 use Rattle.mapdb_cluster.proofs.HonestRuns.{good_from, new_good, places_of}
 
 pub unmaps_reach : UnmapsReach
-unmaps_reach count before later issuer copy run space part rights flush place taken right named =
-    let first = (good_from (new_net count) before (new_good count run.few) run.first).0 in
-    let last = (good_from (after (new_net count) before) later first run.more).0 in
-    let at = run.issues.0 in
-    let to = run.takes.0 in
-    unmap_reaches issuer.ops space part rights flush (first.kept.copies at issuer run.issues.1).formed
-    (places_of issuer.ops (first.placed at issuer run.issues.1)) place (state_of copy.ops)
-    (λ id page taken_right cut. atom_kept copy.ops (Rev id page taken_right) (last.kept.copies to copy run.takes.1).sound
+unmaps_reach run later issuer copy are space part rights flush place taken right named =
+    let first = (good_from (new_net run.count) run.moves (new_good run.count are.few) are.first).0 in
+    let last = (good_from (last_net run) later first are.more).0 in
+    let at = are.issues.0 in
+    let to = are.takes.0 in
+    unmap_reaches issuer.ops space part rights flush (first.kept.copies at issuer are.issues.1).formed
+    (places_of issuer.ops (first.placed at issuer are.issues.1)) place (state_of copy.ops)
+    (λ id page taken_right cut. atom_kept copy.ops (Rev id page taken_right) (last.kept.copies to copy are.takes.1).sound
     (taken (Rev id page taken_right) (atom_held (unmap_candidates issuer.ops space (Some part) rights flush) (Rev id page taken_right) cut)))
     right named
 

@@ -1,17 +1,17 @@
 -- Runs in which one copy alone issues commands, and hears from no other.
-use Rattle.std.specs.Prelude.{◌≡◌, ◌≢◌, ◌<◌, ℕ, List, [], ◌∷◌, slice_get, Option, Some, None}
+use Rattle.std.specs.Prelude.{◌≡◌, ◌≢◌, ◌<◌, ℕ, List, [], ◌∷◌, Option, Some, None}
 use Rattle.mapdb_replica.specs.Replica.{Log, empty}
 use Rattle.mapdb_replica.specs.declared.commands.Command.{Command}
 use Rattle.mapdb_tree.specs.Tree.{Tree, first_tree}
 use Rattle.mapdb_tree.specs.declared.nodes.Page.{Page}
 use Rattle.mapdb_sequential.specs.Plain.{AreCommands, IsPlain}
 use Rattle.mapdb_sequential.specs.Sequential.{HasNode}
-use Rattle.mapdb_cluster.specs.Net.{new_net}
-use Rattle.mapdb_cluster.specs.Run.{Happens, Loads, Move, after}
+use Rattle.mapdb_cluster.specs.Run.{Happens, Loads, Move, Run, copy_of}
 use Rattle.mapdb_cluster.specs.declared.events.Event.{Event}
 use Rattle.mapdb_cluster.specs.declared.events.Event.TheVariants.{Deliver, Issue, Join, Send}
 
--- A command is issued at this processor, with memory for all of it; a copy may send; what others hear is not looked at.
+-- A command is issued at this processor, with memory for all of it; a copy may send; what others
+-- hear is not looked at.
 abbrev pub LeavesAlone : ℕ → Event → Option ℕ → Type 0
 LeavesAlone at (Issue to command) memory = (to ≡ at) × (memory ≡ None)
 LeavesAlone at (Send from first end) memory = Unit {0}
@@ -38,12 +38,14 @@ commands_of (Happens event memory ∷ moves) = with_command event (commands_of m
 commands_of (Loads to ops memory ∷ moves) = commands_of moves
 
 -- The copy is that of the run, and has the tree's nodes and nothing else.
-pub record IsTheTree (count at : ℕ) (moves : List Move) (log : Log) (T : Tree) : Type 0 where
-  pub there : slice_get (after (new_net count) moves).copies at ≡ Some log
+pub record IsTheTree (run : Run) (at : ℕ) (log : Log) (T : Tree) : Type 0 where
+  pub there : copy_of run at ≡ Some log
   pub nodes : (page : Page) → HasNode log T page
 
--- Commands issued at one processor alone, into empty destinations, give exactly the manual's tree, whatever other copies hear of them.
+-- Commands issued at one processor alone, into empty destinations, give exactly the manual's tree,
+-- whatever other copies hear of them.
 abbrev pub RunsAloneAreTrees : Type 0
 RunsAloneAreTrees =
-    (count at : ℕ) (moves : List Move) (log : Log) (T : Tree) → at < count → IsAlone at moves → AreCommands (commands_of moves)
-    → IsPlain (empty at) first_tree (commands_of moves) log T → IsTheTree count at moves log T
+    (run : Run) (at : ℕ) (log : Log) (T : Tree) → at < run.count → IsAlone at run.moves
+    → AreCommands (commands_of run.moves)
+    → IsPlain (empty at) first_tree (commands_of run.moves) log T → IsTheTree run at log T

@@ -1,4 +1,5 @@
--- Honest runs: copies take only what copies of the run have issued, so nothing is refused as bad, nor for a clash.
+-- Honest runs: copies take only what copies of the run have issued, so nothing is refused as bad,
+-- nor for a clash.
 use Rattle.std.specs.Prelude.{◌≡◌, ℕ, ◌≤◌, List, [], ◌∷◌, slice_get, Some}
 use Rattle.mapdb_facts.specs.Names.{processor_limit}
 use Rattle.mapdb_facts.specs.Records.{IsAmong}
@@ -9,25 +10,32 @@ use Rattle.mapdb_replica.specs.Commands.{IsCommand}
 use Rattle.mapdb_replica.specs.Replica.{Log}
 use Rattle.mapdb_replica.specs.declared.faults.TakeFault.TheVariants.{Bad, Clash}
 use Rattle.mapdb_cluster.specs.Net.{Net, new_net}
-use Rattle.mapdb_cluster.specs.Run.{Happens, Loads, Move, after, replies}
+use Rattle.mapdb_cluster.specs.Run.{Happens, Loads, Move, Run, last_net, replies}
 use Rattle.mapdb_cluster.specs.declared.events.Event.{Event}
 use Rattle.mapdb_cluster.specs.declared.events.Event.TheVariants.{Deliver, Issue, Join, Send}
 use Rattle.mapdb_cluster.specs.declared.events.Refusal.TheVariants.{Take}
 use Rattle.mapdb_cluster.specs.declared.events.Reply.{Reply}
 use Rattle.mapdb_cluster.specs.declared.events.Reply.TheVariants.{Refused}
 
--- a copy has issued the operation: of a record that of the processor in its name, of any other operation some copy
+-- a copy has issued the operation: of a record that of the processor in its name, of any other
+-- operation some copy
 abbrev pub IsIssued : Net → Op → Type 0
-IsIssued net (Born r) = (issuer : Log) × (slice_get net.copies r.id.processor ≡ Some issuer) × IsAmong (Born r) issuer.own
-IsIssued net (Cut cut) = (at : ℕ) × (issuer : Log) × (slice_get net.copies at ≡ Some issuer) × IsAmong (Cut cut) issuer.own
-IsIssued net (Closed space) = (at : ℕ) × (issuer : Log) × (slice_get net.copies at ≡ Some issuer) × IsAmong (Closed space) issuer.own
+IsIssued net (Born r) = (issuer : Log) × (slice_get net.copies r.id.processor ≡ Some issuer)
+    × IsAmong (Born r) issuer.own
+IsIssued net (Cut cut) = (at : ℕ) × (issuer : Log) × (slice_get net.copies at ≡ Some issuer)
+    × IsAmong (Cut cut) issuer.own
+IsIssued net (Closed space) = (at : ℕ) × (issuer : Log) × (slice_get net.copies at ≡ Some issuer)
+    × IsAmong (Closed space) issuer.own
 
--- All that copies hold, and all that stands in messages, was issued by a copy, and no two different records have one name, of one copy
--- or of two.
+-- All that copies hold, and all that stands in messages, was issued by a copy, and no two different
+-- records have one name, of one copy or of two.
 pub record IsHonest (net : Net) : Type 0 where
-  pub held : (at : ℕ) (copy : Log) (op : Op) → slice_get net.copies at ≡ Some copy → IsAmong op copy.ops → IsIssued net op
-  pub sent : (message : ℕ) (batch : List Op) (op : Op) → slice_get net.messages message ≡ Some batch → IsAmong op batch → IsIssued net op
-  pub one_each : (at other : ℕ) (copy another : Log) → slice_get net.copies at ≡ Some copy → slice_get net.copies other ≡ Some another
+  pub held : (at : ℕ) (copy : Log) (op : Op) → slice_get net.copies at ≡ Some copy
+      → IsAmong op copy.ops → IsIssued net op
+  pub sent : (message : ℕ) (batch : List Op) (op : Op)
+      → slice_get net.messages message ≡ Some batch → IsAmong op batch → IsIssued net op
+  pub one_each : (at other : ℕ) (copy another : Log) → slice_get net.copies at ≡ Some copy
+      → slice_get net.copies other ≡ Some another
       → Agree copy.ops another.ops
 
 -- no operation is refused as bad, nor for a clash
@@ -56,5 +64,5 @@ AreEvents (Loads at ops memory ∷ moves) = ⊥
 -- runs of events alone, from nothing on
 abbrev pub HonestRuns : Type 0
 HonestRuns =
-    (count : ℕ) (moves : List Move) → count ≤ processor_limit → AreEvents moves
-    → IsHonest (after (new_net count) moves) × AllTrusted (replies (new_net count) moves)
+    (run : Run) → run.count ≤ processor_limit → AreEvents run.moves
+    → IsHonest (last_net run) × AllTrusted (replies (new_net run.count) run.moves)

@@ -1,4 +1,5 @@
--- What a cluster keeps: its copies are those of the processors from 0 on, and all that they hold was issued among them.
+-- What a cluster keeps: its copies are those of the processors from 0 on, and all that they hold
+-- was issued among them.
 use Rattle.std.specs.Prelude.{◌≡◌, ℕ, ◌≤◌, true, length, slice_get, Some}
 use Rattle.mapdb_facts.specs.Names.{processor_limit}
 use Rattle.mapdb_facts.specs.Records.{IsAmong}
@@ -20,7 +21,7 @@ pub record IsCopyOf (at : ℕ) (copy : Log) : Type 0 where
   pub named : (r : Record) → IsAmong (Born r) copy.own → r.id.processor ≡ copy.processor
 
 -- At most one copy for each processor that may be, each in its place, and honest together.
-pub record IsKept (net : Net) : Type 0 where
+pub record IsKeptNet (net : Net) : Type 0 where
   pub few : length net.copies ≤ processor_limit
   pub copies : (at : ℕ) (copy : Log) → slice_get net.copies at ≡ Some copy → IsCopyOf at copy
   pub honest : IsHonest net

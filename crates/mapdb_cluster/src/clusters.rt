@@ -13,7 +13,8 @@ use mapdb_replica::{Command, GiveFault, Replica};
 use std::alloc::{AllocError, Global};
 use std::marker::Model;
 
-/// Copies of the mapping database, one for each processor, with the messages that were sent between them.
+/// Copies of the mapping database, one for each processor, with the messages that were sent between
+/// them.
 #[derive(Drop)]
 pub struct Cluster {
     pub(crate) alloc: Global,
@@ -22,14 +23,17 @@ pub struct Cluster {
 }
 
 impl Model for Cluster {
-    ghost use Rattle.mapdb_cluster.specs.Kept.{IsKept};
+    ghost use Rattle.mapdb_cluster.specs.Kept.{IsKeptNet};
     ghost use Rattle.mapdb_cluster.specs.Net.{Net};
 
     ghost Value = { Net };
 
     ghost view = { λ c. record { copies = c.copies.items; messages = c.messages.items } };
 
-    ghost invariant = { λ c. IsKept (record { copies = c.copies.items; messages = c.messages.items }) };
+    ghost invariant = { λ c. IsKeptNet (record {
+      copies = c.copies.items;
+      messages = c.messages.items;
+    }) };
 }
 
 /// Copies that hold nothing, of processors from 0 on. There are at most 64 processors.
@@ -52,7 +56,8 @@ impl Cluster {
     ghost use Rattle.mapdb_cluster.specs.Steps.{Steps};
     ghost use Rattle.mapdb_cluster.specs.declared.events.Event.TheVariants as event;
 
-    /// Copies that hold nothing, of processors from 0 on, and no messages. There are at most 64 processors.
+    /// Copies that hold nothing, of processors from 0 on, and no messages. There are at most 64
+    /// processors.
     pub fn new(alloc: Global, processors: u8) -> Result<Cluster, AllocError>
         requires some { 0 < processors }
         requires most { processors ≤ PROCESSOR_LIMIT }
@@ -139,7 +144,8 @@ impl Cluster {
         join(self.copies.as_mut_slice(), into, from)
     }
 
-    /// Does one event, and answers the reply. A want of memory is a reply too, which tells what stands.
+    /// Does one event, and answers the reply. A want of memory is a reply too, which tells what
+    /// stands.
     pub fn step(&mut self, event: &Event) -> Reply
         ensures steps { Steps self.old event.now result self.new }
         ensures trusted { IsTrusted result }

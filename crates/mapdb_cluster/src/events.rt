@@ -7,10 +7,11 @@ use mapdb_replica::{Command, IssueFault, TakeFault};
 pub enum Event {
     /// A command at a processor's copy.
     Issue { at: u8, command: Command },
-    /// A processor sends a message with the operations of its copy, in order of arrival, from the mark `first` on and up
-    /// to before the mark `end`.
+    /// A processor sends a message with the operations of its copy, in order of arrival, from the
+    /// mark `first` on and up to before the mark `end`.
     Send { from: u8, first: u32, end: u32 },
-    /// A message comes to a processor, whose copy takes its operations. Messages are numbered from 0.
+    /// A message comes to a processor, whose copy takes its operations. Messages are numbered from
+    /// 0.
     Deliver { message: u64, to: u8 },
     /// The copy `into` takes the operations of the copy `from`, in their order of arrival.
     Join { into: u8, from: u8 },
@@ -19,7 +20,8 @@ pub enum Event {
 /// What an event is replied.
 #[derive(Clone, Copy, Debug, PartialEq, Eq)]
 pub enum Reply {
-    /// A Map issued so many records, with numbers that rise by one from the first; none is `first: 0, count: 0`.
+    /// A Map issued so many records, with numbers that rise by one from the first; none is `first:
+    /// 0, count: 0`.
     Issued { first: u64, count: u32 },
     /// An Unmap issued so many revocations.
     Revoked(u32),

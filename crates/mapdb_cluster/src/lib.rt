@@ -1,7 +1,9 @@
-//! A cluster of copies of the mapping database, one for each processor, and the messages between them.
+//! A cluster of copies of the mapping database, one for each processor, and the messages between
+//! them.
 //!
-//! Messages are kept for good, and may be delivered in any order, again, or never. Whatever the schedule, copies agree
-//! wherever they took the same operations; module [`laws`] says so of every run.
+//! Messages are kept for good, and may be delivered in any order, again, or never. Whatever the
+//! schedule, copies agree wherever they took the same operations; module [`laws`] says so of every
+//! run.
 #![tactic(auto)]
 
 mod clusters;

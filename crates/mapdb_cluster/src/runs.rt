@@ -7,8 +7,8 @@ use mapdb_replica::{IssueFault, TakeFault};
 /// Why a run of a cluster stopped.
 #[derive(Clone, Copy, Debug, PartialEq, Eq)]
 pub enum RunFault {
-    /// Memory was wanted. The first `done` events stand, and the next one not at all, or in the part that its own fault
-    /// allows.
+    /// Memory was wanted. The first `done` events stand, and the next one not at all, or in the
+    /// part that its own fault allows.
     Memory { done: usize },
 }
 
@@ -35,10 +35,11 @@ impl Cluster {
     ghost use Rattle.mapdb_cluster.specs.Run.{after, all_done, replies};
     ghost use Rattle.mapdb_cluster.specs.Steps.{StopsAt};
 
-    /// Does events, one after the other, and answers their replies in order. It goes on from where the cluster is, and
-    /// stops at the first want of memory.
+    /// Does events, one after the other, and answers their replies in order. It goes on from where
+    /// the cluster is, and stops at the first want of memory.
     pub fn run(&mut self, events: &[Event]) -> Result<Vec<Reply>, RunFault>
-        ensures replies { IfOk result (λ answer. answer.items ≡ replies self.old (all_done events.now)) }
+        ensures replies { IfOk result (λ answer. answer.items
+            ≡ replies self.old (all_done events.now)) }
         ensures trusted { IfOk result (λ answer. AllTrusted answer.items) }
         ensures done { OnOk result (self.new ≡ after self.old (all_done events.now)) }
         ensures err { IfErr result (StopsAt self.old events.now self.new) }

@@ -6,7 +6,7 @@ use Rattle.crossbeam_channel.specs.Fifo.{Pushes, Pops, Forks, Merges, Learns}
 use Rattle.atomic_table.proofs.Lists.{at_set, at_snoc}
 use Rattle.mapdb_exchange.specs.declared.messages.Message.{Message}
 use Rattle.mapdb_exchange.specs.declared.rules.PassView.{PassView}
-use Rattle.mapdb_exchange.specs.Rules.{pass_view, Fits, Carries}
+use Rattle.mapdb_exchange.specs.Rules.{pass_view, FitsPasses, Carries}
 
 at_end : (l : List PassView) (a b : PassView) (j : ℕ) → get_elem? l j ≢ some b → get_elem? (l ++ a ∷ []) j ≡ some b → j ≡ length l
 at_end [] a b zero n e = refl
@@ -22,7 +22,7 @@ all_set F views port w mine others j u e = ⊎_elim (λ (x : (j ≡ port) × (w 
     (λ (x : (j ≢ port) × (get_elem? views j ≡ some u)). others j u x.0 x.1) (at_set views port j w u e)
 
 pub begins : Carries [] (pass_view true true [] [] ∷ [])
-begins = (0, 0, [], [], refl, all_set (Fits 0 0 [] []) (pass_view true true [] [] ∷ []) 0 (pass_view true true [] []) ((λ _. (refl, refl)), λ _. (refl, refl)) (λ j u other e. absurd (other (at_end [] _ u j (λ x. some-ne-none u (sym x)) e))))
+begins = (0, 0, [], [], refl, all_set (FitsPasses 0 0 [] []) (pass_view true true [] [] ∷ []) 0 (pass_view true true [] []) ((λ _. (refl, refl)), λ _. (refl, refl)) (λ j u other e. absurd (other (at_end [] _ u j (λ x. some-ne-none u (sym x)) e))))
 
 pub sends : (n port : ℕ) (v : PassView) (x : Message) → v.sends ≡ true → Pushes Carries n port v x (λ w. w ≡ pass_view v.sends v.receives (v.put ++ x ∷ []) v.received)
 sends n port v x may items views _ h at = let w : PassView = pass_view v.sends v.receives (v.put ++ x ∷ []) v.received in let mine = h.5 port v at in let sent = h.2 ++ x ∷ [] in (
@@ -33,7 +33,7 @@ sends n port v x may items views _ h at = let w : PassView = pass_view v.sends v
     sent,
     h.3,
     ap (λ l. l ++ x ∷ []) h.4 ∙ append_assoc h.3 items (x ∷ []),
-    all_set (Fits h.0 h.1 sent h.3) views port w ((λ _. ((mine.0 may).0, ap (λ l. l ++ x ∷ []) (mine.0 may).1)), mine.1)
+    all_set (FitsPasses h.0 h.1 sent h.3) views port w ((λ _. ((mine.0 may).0, ap (λ l. l ++ x ∷ []) (mine.0 may).1)), mine.1)
         (λ j u other e. ((λ p. absurd (other (((h.5 j u e).0 p).0 ∙ sym (mine.0 may).0))), (h.5 j u e).1)),
   ),
   refl,
@@ -48,7 +48,7 @@ gets port v may x items views h at = let w : PassView = pass_view v.sends v.rece
     h.2,
     got,
     h.4 ∙ sym (append_assoc h.3 (x ∷ []) items),
-    all_set (Fits h.0 h.1 h.2 got) views port w (mine.0, λ _. ((mine.1 may).0, ap (λ l. l ++ x ∷ []) (mine.1 may).1))
+    all_set (FitsPasses h.0 h.1 h.2 got) views port w (mine.0, λ _. ((mine.1 may).0, ap (λ l. l ++ x ∷ []) (mine.1 may).1))
         (λ j u other e. ((h.5 j u e).0, λ p. absurd (other (((h.5 j u e).1 p).0 ∙ sym (mine.1 may).0)))),
   ),
   refl,
@@ -70,9 +70,9 @@ forks port v a b items views h at = let l : PassView = pass_view true false v.pu
 pub merges : (port : ℕ) (v : PassView) (other : ℕ) (u : PassView) → v.sends ≡ true → u.receives ≡ true → Merges Carries port v other u (pass_view true true v.put u.received) (pass_view false false [] [])
 merges port v other u a b items views h at two at' = let both : PassView = pass_view true true v.put u.received in let mine = h.5 port v at in let vs : List PassView = set views port both in
     let was : get_elem? views other ≡ some u = ⊎_elim (λ x. absurd (two x.0)) (λ x. x.1) (at_set views port other both u at') in let theirs = (h.5 other u was).1 b in
-    let Now : ℕ → PassView → Type 0 = λ j y. j ≢ other → Fits h.0 port h.2 h.3 j y in
+    let Now : ℕ → PassView → Type 0 = λ j y. j ≢ other → FitsPasses h.0 port h.2 h.3 j y in
     let now : All Now vs = all_set Now views port both (λ _. ((λ _. mine.0 a), λ _. (refl, theirs.1))) (λ j y _ e apart. ((h.5 j y e).0, λ p. absurd (apart (((h.5 j y e).1 p).0 ∙ sym theirs.0)))) in
-    (h.0, port, h.2, h.3, h.4, all_set (Fits h.0 port h.2 h.3) vs other (pass_view false false [] []) ((λ p. absurd (true≢false (sym p))), λ p. absurd (true≢false (sym p))) (λ j y apart e. now j y e apart))
+    (h.0, port, h.2, h.3, h.4, all_set (FitsPasses h.0 port h.2 h.3) vs other (pass_view false false [] []) ((λ p. absurd (true≢false (sym p))), λ p. absurd (true≢false (sym p))) (λ j y apart e. now j y e apart))
 
 pub totals : (port : ℕ) (v : PassView) → v.sends ≡ true → v.receives ≡ true → Learns Carries port v (λ items. v.put ≡ v.received ++ items)
 totals port v a b items views h at = let mine = h.5 port v at in (mine.0 a).1 ∙ h.4 ∙ ap (λ l. l ++ items) (sym (mine.1 b).1)

@@ -3,7 +3,7 @@ use Rattle.std.proofs.Common.{◌≡◌, ◌<◌, ◌≤◌, true, false, refl, 
 use Rattle.std.specs.Prelude.{nat_lt}
 use Rattle.std.specs.List.{AllByRecursion}
 use Rattle.std.proofs.lemmas.Bool.Decides.{nat_tests}
-use Rattle.mapdb_exchange.specs.Faults.{IsFirst, turn}
+use Rattle.mapdb_exchange.specs.Faults.{IsFirstFault, fault_turn}
 use Rattle.mapdb_exchange.specs.declared.faults.WorkFault.{WorkFault}
 
 -- one more at the end
@@ -21,24 +21,24 @@ all_join P [] ys all more = more
 all_join P (x ∷ xs) ys all more = (all.0, all_join P xs ys all.1 more)
 
 -- a fault that does not come before the one that is told changes nothing
-pub still_first : (xs : List WorkFault) (held f : WorkFault) → IsFirst xs held → nat_lt (turn f) (turn held) ≡ false → IsFirst (xs ++ f ∷ []) held
+pub still_first : (xs : List WorkFault) (held f : WorkFault) → IsFirstFault xs held → nat_lt (fault_turn f) (fault_turn held) ≡ false → IsFirstFault (xs ++ f ∷ []) held
 still_first xs held f first not =
-    let late : turn held ≤ turn f = grind (arith, nat_tests) in
+    let late : fault_turn held ≤ fault_turn f = grind (arith, nat_tests) in
     record {
       before = first.before;
       after = first.after ++ f ∷ [];
       stands = ap (λ (l : List WorkFault). l ++ f ∷ []) first.stands ∙ append_assoc first.before (held ∷ first.after) (f ∷ []);
       sooner = first.sooner;
-      later = all_put (λ x. turn held ≤ turn x) first.after f first.later late;
+      later = all_put (λ x. fault_turn held ≤ fault_turn x) first.after f first.later late;
     }
 
 -- a fault that comes before the one that is told comes before all
-pub new_first : (xs : List WorkFault) (held f : WorkFault) → IsFirst xs held → nat_lt (turn f) (turn held) ≡ true → IsFirst (xs ++ f ∷ []) f
+pub new_first : (xs : List WorkFault) (held f : WorkFault) → IsFirstFault xs held → nat_lt (fault_turn f) (fault_turn held) ≡ true → IsFirstFault (xs ++ f ∷ []) f
 new_first xs held f first is =
-    let early : turn f < turn held = grind (arith, nat_tests) in
-    let P : WorkFault → Type 0 = λ x. turn f < turn x in
-    let front = all_weaker (λ x. turn held < turn x) P first.before (λ x h. omega (arith, early, h)) first.sooner in
-    let back = all_weaker (λ x. turn held ≤ turn x) P first.after (λ x h. omega (arith, early, h)) first.later in
+    let early : fault_turn f < fault_turn held = grind (arith, nat_tests) in
+    let P : WorkFault → Type 0 = λ x. fault_turn f < fault_turn x in
+    let front = all_weaker (λ x. fault_turn held < fault_turn x) P first.before (λ x h. omega (arith, early, h)) first.sooner in
+    let back = all_weaker (λ x. fault_turn held ≤ fault_turn x) P first.after (λ x h. omega (arith, early, h)) first.later in
     record {
       before = xs;
       after = [];
@@ -48,6 +48,6 @@ new_first xs held f first is =
     }
 
 -- the only fault is told
-pub only_first : (xs : List WorkFault) (f : WorkFault) → xs ≡ [] → IsFirst (xs ++ f ∷ []) f
+pub only_first : (xs : List WorkFault) (f : WorkFault) → xs ≡ [] → IsFirstFault (xs ++ f ∷ []) f
 only_first [] f is = record { before = []; after = []; stands = refl; sooner = tt; later = tt }
 only_first (x ∷ xs) f is = cc

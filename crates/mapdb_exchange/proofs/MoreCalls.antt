@@ -10,7 +10,7 @@ use Rattle.mapdb_node.specs.declared.events.NodeEvent.TheVariants.{Issue, OwnAt,
 use Rattle.mapdb_node.specs.declared.events.NodeReply.{NodeReply}
 use Rattle.mapdb_node.specs.declared.events.NodeReply.TheVariants as reply
 use Rattle.mapdb_node.specs.declared.seats.Call.{Call}
-use Rattle.mapdb_exchange.specs.Calls.{commands_in, held_in, ops_in, taken_in, with_command, with_held, with_ops}
+use Rattle.mapdb_exchange.specs.Calls.{commands_in, held_in, ops_in, taken_in, with_event_command, with_held, with_ops}
 use Rattle.mapdb_exchange.specs.declared.messages.Batch.{Batch as BatchOf}
 use Rattle.mapdb_exchange.specs.declared.messages.Message.{Message}
 use Rattle.mapdb_exchange.specs.declared.messages.Message.TheVariants.{Batch, Fin}
@@ -58,17 +58,17 @@ took_more start ops i op cs place answer within here before taken =
     ∙ (ap (λ (xs : List Op). held_in cs ++ xs) (is_held op answer taken)
     ∙ (ap (λ (xs : List Op). xs ++ op ∷ []) before ∙ take_next start ops i op within here))
 
-with_command_more : (event : NodeEvent) (xs ys : List Command) → with_command event (xs ++ ys) ≡ with_command event xs ++ ys
+with_command_more : (event : NodeEvent) (xs ys : List Command) → with_event_command event (xs ++ ys) ≡ with_event_command event xs ++ ys
 with_command_more (Issue command) xs ys = refl
 with_command_more (Take op) xs ys = refl
 with_command_more (Served space page) xs ys = refl
 with_command_more (OwnAt place) xs ys = refl
 
-commands_more : (cs : List Call) (c : Call) → commands_in (cs ++ c ∷ []) ≡ commands_in cs ++ with_command c.event []
+commands_more : (cs : List Call) (c : Call) → commands_in (cs ++ c ∷ []) ≡ commands_in cs ++ with_event_command c.event []
 commands_more [] c = refl
 commands_more (x ∷ cs) c =
-    ap (λ (commands : List Command). with_command x.event commands) (commands_more cs c)
-    ∙ with_command_more x.event (commands_in cs) (with_command c.event [])
+    ap (λ (commands : List Command). with_event_command x.event commands) (commands_more cs c)
+    ∙ with_command_more x.event (commands_in cs) (with_event_command c.event [])
 
 -- one command more was issued
 pub issued_more : (start script : List Command) (i : ℕ) (command : Command) (cs : List Call) (place : ℕ) (answer : NodeReply) → i < length script

@@ -6,15 +6,17 @@ use Rattle.std.proofs.lemmas.Bool.{and_parts}
 use Rattle.mapdb_facts.specs.State.{Atom, HasAtom, state_of}
 use Rattle.mapdb_facts.specs.declared.operations.Op.{Op}
 use Rattle.mapdb_facts.proofs.Joins.{atom_append, atom_left, atom_right}
-use Rattle.mapdb_replica.specs.Commands.{command_outcome}
+use Rattle.mapdb_replica.specs.Commands.{Applies, command_outcome}
 use Rattle.mapdb_replica.specs.Replica.{Log, news, with_issued}
 use Rattle.mapdb_replica.specs.Taking.{take_outcome, take_refusal, taken_unless, with_taken}
+use Rattle.mapdb_replica.specs.declared.commands.Applied.{Applied}
 use Rattle.mapdb_replica.specs.declared.commands.Command.{Command}
 use Rattle.mapdb_replica.specs.declared.faults.IssueFault.{IssueFault}
+use Rattle.mapdb_replica.specs.declared.faults.IssueFault.TheVariants as issue
 use Rattle.mapdb_replica.specs.declared.faults.TakeFault.{TakeFault}
 use Rattle.mapdb_replica.proofs.NewsAtoms.{news_give}
 use Rattle.mapdb_node.specs.Journals.{Replays}
-use Rattle.mapdb_node.specs.Steps.{Commands, Steps, TakesOne}
+use Rattle.mapdb_node.specs.Steps.{NodeSteps, TakesOne}
 use Rattle.mapdb_node.specs.declared.events.Entry.{Entry}
 use Rattle.mapdb_node.specs.declared.events.NodeEvent.{NodeEvent}
 use Rattle.mapdb_node.specs.declared.events.NodeEvent.TheVariants.{Issue, OwnAt, Served, Take}
@@ -66,17 +68,16 @@ taken_news : (refusal : Option TakeFault) (xs ops : List Op) → taken_unless re
 taken_news None xs ops e = cc
 taken_news (Some fault) xs ops e = cc
 
-issue_step : (command : Command) (outcome : Result (List Op) IssueFault) (r : NodeReply) (old new : Log) (taken : List Op)
-    → Commands command outcome r old new → Gathers old taken → Gathers new taken
-issue_step command (Err fault) r old new taken h has = subst (λ (x : Log). Gathers x taken) (sym h.1) has
-issue_step command (Ok ops) (reply.IssueRefused why) old new taken h has = subst (λ (x : Log). Gathers x taken) (sym h.3) (issue_gathers old (take h.0 ops) taken has)
-issue_step command (Ok ops) (reply.Issued first count) old new taken h has = subst (λ (x : Log). Gathers x taken) (sym h.1) (issue_gathers old ops taken has)
-issue_step command (Ok ops) (reply.Revoked count) old new taken h has = subst (λ (x : Log). Gathers x taken) (sym h.1) (issue_gathers old ops taken has)
-issue_step command (Ok ops) reply.Ended old new taken h has = subst (λ (x : Log). Gathers x taken) (sym h.1) (issue_gathers old ops taken has)
-issue_step command (Ok ops) (reply.Taken new_one) old new taken h has = subst (λ (x : Log). Gathers x taken) (sym h.1) (issue_gathers old ops taken has)
-issue_step command (Ok ops) (reply.Served found) old new taken h has = subst (λ (x : Log). Gathers x taken) (sym h.1) (issue_gathers old ops taken has)
-issue_step command (Ok ops) (reply.Own found) old new taken h has = subst (λ (x : Log). Gathers x taken) (sym h.1) (issue_gathers old ops taken has)
-issue_step command (Ok ops) (reply.TakeRefused why) old new taken h has = subst (λ (x : Log). Gathers x taken) (sym h.1) (issue_gathers old ops taken has)
+issue_step : (command : Command) (outcome : Result (List Op) IssueFault) (result : Result Applied IssueFault) (old new : Log) (taken : List Op)
+    → Applies command outcome result old new → Gathers old taken → Gathers new taken
+issue_step command (Err refusal) (Ok applied) old new taken h has = absurd h
+issue_step command (Err refusal) (Err fault) old new taken h has = subst (λ (x : Log). Gathers x taken) (sym h.1) has
+issue_step command (Ok ops) (Ok applied) old new taken h has = subst (λ (x : Log). Gathers x taken) (sym h.1) (issue_gathers old ops taken has)
+issue_step command (Ok ops) (Err (issue.Memory n)) old new taken h has = subst (λ (x : Log). Gathers x taken) (sym h.1) (issue_gathers old (take n ops) taken has)
+issue_step command (Ok ops) (Err (issue.SpaceEnded space)) old new taken h has = absurd h
+issue_step command (Ok ops) (Err issue.RootSpace) old new taken h has = absurd h
+issue_step command (Ok ops) (Err issue.NumbersSpent) old new taken h has = absurd h
+issue_step command (Ok ops) (Err issue.Full) old new taken h has = absurd h
 
 take_step : (op : Op) (outcome : Result (List Op) TakeFault) (r : NodeReply) (old new : Log) (taken : List Op)
     → take_outcome old.ops (op ∷ []) ≡ outcome → was_taken r ≡ true → TakesOne op outcome r old new → Gathers old taken → Gathers new (op ∷ taken)
@@ -93,9 +94,9 @@ take_step op (Ok ops) (reply.Served found) old new taken is held h has = absurd 
 take_step op (Ok ops) (reply.Own found) old new taken is held h has = absurd (true≢false (sym held))
 take_step op (Ok ops) (reply.TakeRefused why) old new taken is held h has = absurd (true≢false (sym held))
 
-step_gathers : (old : Log) (e : NodeEvent) (r : NodeReply) (new : Log) (taken : List Op) (seats : List ℕ) (seat : ℕ) → Steps old e r new → is_heard seats seat e r ≡ true → Gathers old taken → Gathers new (with_take true e taken)
-unfolding Steps
-step_gathers old (Issue command) r new taken seats seat h heard has = issue_step command (command_outcome old command) r old new taken h has
+step_gathers : (old : Log) (e : NodeEvent) (r : NodeReply) (new : Log) (taken : List Op) (seats : List ℕ) (seat : ℕ) → NodeSteps old e r new → is_heard seats seat e r ≡ true → Gathers old taken → Gathers new (with_take true e taken)
+unfolding NodeSteps
+step_gathers old (Issue command) r new taken seats seat h heard has = issue_step command (command_outcome old command) h.0 old new taken h.1 has
 step_gathers old (Take op) r new taken seats seat h heard has = take_step op (take_outcome old.ops (op ∷ [])) r old new taken refl (and_parts (was_taken r) _ heard).0 h has
 step_gathers old (Served space page) r new taken seats seat h heard has = subst (λ (x : Log). Gathers x taken) (sym h.1) has
 step_gathers old (OwnAt place) r new taken seats seat h heard has = subst (λ (x : Log). Gathers x taken) (sym h.1) has

@@ -15,7 +15,7 @@ use Rattle.mapdb_node.specs.declared.events.NodeEvent.{NodeEvent}
 use Rattle.mapdb_node.specs.declared.events.NodeEvent.TheVariants.{Issue, OwnAt, Served, Take}
 use Rattle.mapdb_node.specs.declared.events.NodeReply.{NodeReply}
 use Rattle.mapdb_exchange.specs.declared.reports.Part.{Part}
-use Rattle.mapdb_exchange.specs.Reports.{with_take, takes_of, is_heard, was_taken, place_of, IsPart, AreParts, IsIssued, HoldSame}
+use Rattle.mapdb_exchange.specs.Reports.{with_take, takes_of, is_heard, was_taken, hearer_place, IsPartOfReport, AreParts, IsIssuedByOne, HoldSame}
 use Rattle.mapdb_exchange.proofs.Replaying.{taken_of, Gathers, replay_gathers}
 
 -- an operation with the atom was taken at one of the seats
@@ -81,10 +81,10 @@ taken_whole s (e ∷ es) xs atom h =
     ⊎_elim (λ q. old_taken es (with_take true e.event xs) atom q) (λ q. taken_whole s es (with_take true e.event xs) atom q) (take_split atom (e.seat == s) e.event xs (takes_of s es) h)
 
 -- the processor that the seat at a place hears
-heard_at : (k j n : ℕ) → k < n → j + 1 < n → (q : ℕ) × (q < n) × (q ≢ k) × (place_of k q ≡ j + 1)
+heard_at : (k j n : ℕ) → k < n → j + 1 < n → (q : ℕ) × (q < n) × (q ≢ k) × (hearer_place k q ≡ j + 1)
 heard_at k j n within inside = by_test (nat_lt j k) refl
   where
-    by_test : (b : Bool) → nat_lt j k ≡ b → (q : ℕ) × (q < n) × (q ≢ k) × (place_of k q ≡ j + 1)
+    by_test : (b : Bool) → nat_lt j k ≡ b → (q : ℕ) × (q < n) × (q ≢ k) × (hearer_place k q ≡ j + 1)
     by_test true is = (j, omega arith, (let l : j < k = grind (arith, nat_tests) in λ e. omega arith), (rw is refl))
     by_test false is =
         let l : k ≤ j = grind (arith, nat_tests) in
@@ -95,39 +95,39 @@ seat_same : (xs : List ℕ) (i j d s : ℕ) → i ≡ j → j < length xs → ge
 seat_same xs i j d s same inside e = ap (slice_index xs) same ∙ get_or_default xs j 0 d inside ∙ e
 
 -- what the processor at a place issued was issued
-issued_at : (parts : List Part) (k : ℕ) (d : Part) (atom : Atom) → k < length parts → HasAtom (get_or parts k d).history.copy.own atom → IsIssued atom parts
+issued_at : (parts : List Part) (k : ℕ) (d : Part) (atom : Atom) → k < length parts → HasAtom (get_or parts k d).history.copy.own atom → IsIssuedByOne atom parts
 issued_at [] k d atom within h = absurd (omega arith)
 issued_at (p ∷ ps) zero d atom within h = inl h
 issued_at (p ∷ ps) (suc k) d atom within h = inr (issued_at ps k d atom (omega arith) h)
 
 -- who issued it
-issuer_of : (parts : List Part) (d : Part) (atom : Atom) → IsIssued atom parts → (k : ℕ) × (k < length parts) × HasAtom (get_or parts k d).history.copy.own atom
+issuer_of : (parts : List Part) (d : Part) (atom : Atom) → IsIssuedByOne atom parts → (k : ℕ) × (k < length parts) × HasAtom (get_or parts k d).history.copy.own atom
 issuer_of [] d atom none = absurd none
 issuer_of (p ∷ ps) d atom (inl h) = (0, omega arith, h)
 issuer_of (p ∷ ps) d atom (inr later) = let at = issuer_of ps d atom later in (suc at.0, omega (arith, at.1), at.2)
 
 -- what a processor took of another stands in what the other issued
 forth : (scripts : List (List Command)) (parts : List Part) → AreParts scripts parts → (k : ℕ) (d : Part) → k < length parts → (atom : Atom)
-    → Took (drop 1 (get_or parts k d).seats.items) (get_or parts k d).history.entries atom → IsIssued atom parts
+    → Took (drop 1 (get_or parts k d).seats.items) (get_or parts k d).history.entries atom → IsIssuedByOne atom parts
 forth scripts parts all k d within atom t =
     let p : Part = get_or parts k d in
-    let is : IsPart parts k (get_or scripts k []) p = all.each k d within in
+    let is : IsPartOfReport parts k (get_or scripts k []) p = all.each k d within in
     let at = Any-from_list_any (λ z. z == t.0) (drop 1 p.seats.items) t.1 in
     let here : get_or (drop 1 p.seats.items) at.0 at.1 ≡ t.0 = at.3 ∙ eqb-true at.1 t.0 at.4 in
     let n : length p.seats.items ≡ length parts = is.seats in
     let inside : at.0 + 1 < length parts = omega (arith, n, at.2, length-drop 1 p.seats.items) in
     let heard = heard_at k at.0 (length parts) within inside in
     let moved : get_or p.seats.items (1 + at.0) at.1 ≡ t.0 = sym (get_or-drop 1 p.seats.items at.0 at.1) ∙ here in
-    let seat : slice_index p.seats.items (place_of k heard.0) ≡ t.0 = seat_same p.seats.items (place_of k heard.0) (1 + at.0) at.1 t.0 (heard.3 ∙ omega arith) (omega (arith, n, inside)) moved in
+    let seat : slice_index p.seats.items (hearer_place k heard.0) ≡ t.0 = seat_same p.seats.items (hearer_place k heard.0) (1 + at.0) at.1 t.0 (heard.3 ∙ omega arith) (omega (arith, n, inside)) moved in
     let own : takes_of t.0 p.history.entries ≡ (get_or parts heard.0 d).history.copy.own = ap (λ s. takes_of s p.history.entries) (sym seat) ∙ is.takes heard.0 d heard.1 heard.2 in
     issued_at parts heard.0 d atom heard.1 (subst (λ (l : List Op). HasAtom l atom) own t.2)
 
 -- what was issued was issued here or taken here
 back : (scripts : List (List Command)) (parts : List Part) → AreParts scripts parts → (k : ℕ) (d : Part) → k < length parts → (atom : Atom)
-    → IsIssued atom parts → HasAtom (get_or parts k d).history.copy.own atom ⊎ HasAtom (taken_of (get_or parts k d).history.entries []) atom
+    → IsIssuedByOne atom parts → HasAtom (get_or parts k d).history.copy.own atom ⊎ HasAtom (taken_of (get_or parts k d).history.entries []) atom
 back scripts parts all k d within atom h =
     let p : Part = get_or parts k d in
-    let is : IsPart parts k (get_or scripts k []) p = all.each k d within in
+    let is : IsPartOfReport parts k (get_or scripts k []) p = all.each k d within in
     let at = issuer_of parts d atom h in
     ⊎_elim
     (λ (same : (eqb at.0 k ≡ true) × (at.0 ≡ k)). inl (subst (λ (j : ℕ). HasAtom (get_or parts j d).history.copy.own atom) same.1 at.2))
@@ -140,7 +140,7 @@ nothing_yet processor atom = (λ h. absurd h, λ h. ⊎_elim (λ own. own) (λ t
 pub same_copies : (scripts : List (List Command)) (parts : List Part) → AreParts scripts parts → HoldSame parts
 same_copies scripts parts all k d within atom =
     let p : Part = get_or parts k d in
-    let is : IsPart parts k (get_or scripts k []) p = all.each k d within in
+    let is : IsPartOfReport parts k (get_or scripts k []) p = all.each k d within in
     let gathers : Gathers p.history.copy (taken_of p.history.entries []) = replay_gathers (drop 1 p.seats.items) (empty p.history.copy.processor) p.history.entries p.history.copy [] is.replays is.only (nothing_yet p.history.copy.processor) in (
       (λ h. ⊎_elim
           (λ (mine : HasAtom p.history.copy.own atom). issued_at parts k d atom within mine)

@@ -1,5 +1,6 @@
 -- What workers ask of a node and what it replies, by the calls from their seats.
-use Rattle.std.specs.Prelude.{ℕ, ◌≡◌, ◌⊎◌, ◌+◌, ◌^◌, nat_lt, if◌then◌else◌, List, [], ◌∷◌, ◌++◌, Some, Result, Ok, Err}
+use Rattle.std.specs.Prelude.{ℕ, ◌≡◌, ◌⊎◌, ◌+◌, ◌^◌, nat_lt, if◌then◌else◌, List, [], ◌∷◌, ◌++◌}
+use Rattle.std.specs.Prelude.{Some, Result, Ok, Err}
 use Rattle.mapdb_facts.specs.declared.operations.Op.{Op}
 use Rattle.mapdb_replica.specs.declared.commands.Command.{Command}
 use Rattle.mapdb_replica.specs.declared.faults.IssueFault.{IssueFault}
@@ -45,15 +46,18 @@ own_in answer = Err (Node Own)
 
 -- the place so many places on, of an own operation
 abbrev pub place_after : ℕ → ℕ → Result ℕ WorkFault
-place_after first count = if nat_lt (first + count) (2 ^ 32) then Ok (first + count) else Err (Node Own)
+place_after first count = if nat_lt (first + count) (2 ^ 32) then Ok (first + count)
+    else Err (Node Own)
 
 -- a fault of a worker that reads own operations: there was none at a place, or a call was not done
 abbrev pub IsReadingFault : WorkFault → Type 0
 IsReadingFault fault = (fault ≡ Node Own) ⊎ ((why : CallFault) × (fault ≡ called_fault why))
 
--- a fault of a worker that issues: an own operation was not read, or the reply to a command tells it
+-- a fault of a worker that issues: an own operation was not read, or the reply to a command tells
+-- it
 abbrev pub IsIssuingFault : WorkFault → Type 0
-IsIssuingFault fault = IsReadingFault fault ⊎ ((answer : NodeReply) × (issued_in answer ≡ Err fault))
+IsIssuingFault fault = IsReadingFault fault
+    ⊎ ((answer : NodeReply) × (issued_in answer ≡ Err fault))
 
 -- the worker's fault where an operation was refused
 abbrev pub refused_take : TakeFault → WorkFault
@@ -68,7 +72,8 @@ taken_in answer = Err Link
 
 -- a fault of a worker that takes operations: a call was not done, or the reply to a Take tells it
 abbrev pub IsTakingFault : WorkFault → Type 0
-IsTakingFault fault = ((why : CallFault) × (fault ≡ called_fault why)) ⊎ ((answer : NodeReply) × (taken_in answer ≡ Err fault))
+IsTakingFault fault = ((why : CallFault) × (fault ≡ called_fault why))
+    ⊎ ((answer : NodeReply) × (taken_in answer ≡ Err fault))
 
 -- the operation of a Take, if it is held, before others
 abbrev pub with_held : NodeEvent → NodeReply → List Op → List Op
@@ -81,14 +86,14 @@ held_in [] = []
 held_in (c ∷ cs) = with_held c.event c.reply (held_in cs)
 
 -- the command of an event, if it is one, before others
-abbrev pub with_command : NodeEvent → List Command → List Command
-with_command (Issue command) rest = command ∷ rest
-with_command event rest = rest
+abbrev pub with_event_command : NodeEvent → List Command → List Command
+with_event_command (Issue command) rest = command ∷ rest
+with_event_command event rest = rest
 
 -- the commands among calls, in order
 abbrev pub commands_in : List Call → List Command
 commands_in [] = []
-commands_in (c ∷ cs) = with_command c.event (commands_in cs)
+commands_in (c ∷ cs) = with_event_command c.event (commands_in cs)
 
 -- the operations of a message, before others
 abbrev pub with_ops : Message → List Op → List Op

@@ -5,4 +5,5 @@ use Rattle.mapdb_exchange.specs.declared.links.TheConstants.{MOST_CAPACITY}
 
 -- so many scripts, over links of this capacity
 abbrev pub IsCount : ℕ → ℕ → Type 0
-IsCount count capacity = (1 ≤ count) × (count ≤ MOST_PROCESSORS) × (1 ≤ capacity) × (capacity ≤ MOST_CAPACITY)
+IsCount count capacity = (1 ≤ count) × (count ≤ MOST_PROCESSORS) × (1 ≤ capacity)
+    × (capacity ≤ MOST_CAPACITY)

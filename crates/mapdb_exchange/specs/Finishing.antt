@@ -12,9 +12,11 @@ pub record Sent : Type 0 where
 abbrev pub sent_on : Sending → Sent
 sent_on sending = record { from = sending.from; to = sending.to; link = sending.end.link }
 
--- the ends are those of these links, in order, and each has put the batches of its link, numbered from 0 on, and then Fin
+-- the ends are those of these links, in order, and each has put the batches of its link, numbered
+-- from 0 on, and then Fin
 abbrev pub AreFinished : List Sent → List Outlet → Type 0
 AreFinished [] [] = Unit {0}
 AreFinished [] (o ∷ os) = ⊥
 AreFinished (s ∷ ss) [] = ⊥
-AreFinished (s ∷ ss) (o ∷ os) = (o.link ≡ s.link) × AreNumbered s.from s.to 0 o.put × AreFinished ss os
+AreFinished (s ∷ ss) (o ∷ os) = (o.link ≡ s.link) × AreNumbered s.from s.to 0 o.put
+    × AreFinished ss os

@@ -1,5 +1,7 @@
 -- What the histories of an exchange say.
-use Rattle.std.specs.Prelude.{ℕ, Bool, true, false, ◌≡◌, ◌≢◌, ◌⊎◌, ◌↔◌, ◌+◌, ◌<◌, ◌==◌, ◌&&◌, not, if◌then◌else◌, nat_lt, List, [], ◌∷◌, length, map, drop, slice_index, slice_index_or}
+use Rattle.std.specs.Prelude.{ℕ, Bool, true, false, ◌≡◌, ◌≢◌, ◌⊎◌, ◌↔◌, ◌+◌, ◌<◌, ◌==◌, ◌&&◌, not}
+use Rattle.std.specs.Prelude.{if◌then◌else◌, nat_lt, List, [], ◌∷◌, length, map, drop, slice_index}
+use Rattle.std.specs.Prelude.{slice_index_or}
 use Rattle.std.specs.List.{list_any, list_all}
 use Rattle.mapdb_facts.specs.State.{Atom, HasAtom}
 use Rattle.mapdb_facts.specs.declared.operations.Op.{Op}
@@ -68,38 +70,45 @@ is_heard seats seat (Served space page) answer = true
 is_heard seats seat (OwnAt place) answer = true
 
 -- no seat's number stands twice
-abbrev pub AreApart : List ℕ → Type 0
-AreApart [] = Unit {0}
-AreApart (seat ∷ seats) = (list_any (λ s. s == seat) seats ≡ false) × AreApart seats
+abbrev pub NoneTwice : List ℕ → Type 0
+NoneTwice [] = Unit {0}
+NoneTwice (seat ∷ seats) = (list_any (λ s. s == seat) seats ≡ false) × NoneTwice seats
 
 -- the place, among the seats of processor k, of the seat that hears processor q
-abbrev pub place_of : ℕ → ℕ → ℕ
-place_of k q = if nat_lt q k then q + 1 else q
+abbrev pub hearer_place : ℕ → ℕ → ℕ
+hearer_place k q = if nat_lt q k then q + 1 else q
 
--- The part of processor k: its script at its first seat; and at each other seat, in order, the own operations of the
--- processor that this seat hears. Nothing else is taken, nothing taken was refused, and nowhere was memory wanted.
-pub record IsPart (parts : List Part) (k : ℕ) (script : List Command) (p : Part) : Type 0 where
+-- The part of processor k: its script at its first seat; and at each other seat, in order, the own
+-- operations of the processor that this seat hears. Nothing else is taken, nothing taken was
+-- refused, and nowhere was memory wanted.
+pub record IsPartOfReport (parts : List Part) (k : ℕ) (script : List Command) (p : Part)
+    : Type 0 where
   pub number : p.processor ≡ k
   pub of_processor : p.history.copy.processor ≡ k
   pub commands : p.commands ≡ length script
   pub seats : length p.seats.items ≡ length parts
-  pub apart : AreApart p.seats.items
+  pub apart : NoneTwice p.seats.items
   pub issues : issues_of p.history.entries ≡ map (at_seat (slice_index p.seats.items 0)) script
-  pub takes : (q : ℕ) (d : Part) → q < length parts → q ≢ k → takes_of (slice_index p.seats.items (place_of k q)) p.history.entries ≡ (slice_index_or parts q d).history.copy.own
-  pub only : list_all (λ e. is_heard (drop 1 p.seats.items) e.seat e.event e.reply) p.history.entries ≡ true
+  pub takes : (q : ℕ) (d : Part) → q < length parts → q ≢ k
+      → takes_of (slice_index p.seats.items (hearer_place k q)) p.history.entries
+      ≡ (slice_index_or parts q d).history.copy.own
+  pub only : list_all (λ e. is_heard (drop 1 p.seats.items) e.seat e.event e.reply)
+      p.history.entries ≡ true
   pub memory : list_all (λ e. not (wanted_memory e.reply)) p.history.entries ≡ true
   pub replays : Replays (empty p.history.copy.processor) p.history.entries p.history.copy
 
 -- one part for each script, in order
 pub record AreParts (scripts : List (List Command)) (parts : List Part) : Type 0 where
   pub count : length parts ≡ length scripts
-  pub each : (k : ℕ) (d : Part) → k < length parts → IsPart parts k (slice_index_or scripts k []) (slice_index_or parts k d)
+  pub each : (k : ℕ) (d : Part) → k < length parts
+      → IsPartOfReport parts k (slice_index_or scripts k []) (slice_index_or parts k d)
 
 -- one of the processors issued an operation with this atom
-abbrev pub IsIssued : Atom → List Part → Type 0
-IsIssued atom [] = ⊥
-IsIssued atom (p ∷ ps) = HasAtom p.history.copy.own atom ⊎ IsIssued atom ps
+abbrev pub IsIssuedByOne : Atom → List Part → Type 0
+IsIssuedByOne atom [] = ⊥
+IsIssuedByOne atom (p ∷ ps) = HasAtom p.history.copy.own atom ⊎ IsIssuedByOne atom ps
 
 -- each copy holds exactly the atoms of what all processors issued
 abbrev pub HoldSame : List Part → Type 0
-HoldSame parts = (k : ℕ) (d : Part) → k < length parts → (atom : Atom) → HasAtom (slice_index_or parts k d).history.copy.ops atom ↔ IsIssued atom parts
+HoldSame parts = (k : ℕ) (d : Part) → k < length parts → (atom : Atom)
+    → HasAtom (slice_index_or parts k d).history.copy.ops atom ↔ IsIssuedByOne atom parts

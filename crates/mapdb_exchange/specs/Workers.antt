@@ -11,10 +11,12 @@ use Rattle.mapdb_exchange.specs.declared.workers.Ended.{Ended}
 use Rattle.mapdb_exchange.specs.declared.workers.Job.{Job}
 use Rattle.mapdb_exchange.specs.declared.workers.Job.TheVariants.{Issue, Receive}
 
--- What stands at the end at the seat of a worker that met no fault: an issuing one called the commands of its script, in order; a
--- receiving one received the batches of its link, numbered from 0 on, and Fin, and took what they carry, in order, all of which is held.
+-- What stands at the end at the seat of a worker that met no fault: an issuing one called the
+-- commands of its script, in order; a receiving one received the batches of its link, numbered from
+-- 0 on, and Fin, and took what they carry, in order, all of which is held.
 abbrev pub HasWorked : Job → Seated → Type 0
-HasWorked (Issue issuing) seat = commands_in seat.calls ≡ commands_in issuing.seat.calls ++ issuing.script.now
+HasWorked (Issue issuing) seat = commands_in seat.calls
+    ≡ commands_in issuing.seat.calls ++ issuing.script.now
 HasWorked (Receive receiving) seat =
     (received : List Message) × AreNumbered receiving.link.from receiving.link.to 0 received
     × (held_in seat.calls ≡ held_in receiving.seat.calls ++ ops_in received)

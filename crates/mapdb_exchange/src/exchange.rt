@@ -1,6 +1,7 @@
 //! Processors that run their scripts side by side, and tell each other what they issue.
 
-ghost use Rattle.std.specs.Prelude.{◌≡◌, ◌⊎◌, [], ◌<◌, ◌≤◌, ◌↔◌, length, map, IsTrue, IfErr, IfOk, OnOk};
+ghost use Rattle.std.specs.Prelude.{◌≡◌, ◌⊎◌, [], ◌<◌, ◌≤◌, ◌↔◌, length, map, IsTrue, IfErr, IfOk};
+ghost use Rattle.std.specs.Prelude.{OnOk};
 ghost use Rattle.mapdb_exchange.specs.Counts.{IsCount};
 ghost use Rattle.mapdb_exchange.specs.Faults.{IsSetupFault};
 ghost use Rattle.mapdb_exchange.specs.Reports.{AreParts, HoldSame};
@@ -22,10 +23,12 @@ use std::vec::IntoIter;
 /// An exchange has at most this many processors.
 pub const MOST_PROCESSORS: usize = 4;
 
-/// Runs each script at a processor of its own, all at the same time, over links that hold `capacity` messages each. Each
-/// call passes the gate. Once all have ended, each copy holds what all processors issued. It waits.
+/// Runs each script at a processor of its own, all at the same time, over links that hold
+/// `capacity` messages each. Each call passes the gate. Once all have ended, each copy holds what
+/// all processors issued. It waits.
 ///
-/// A command that is refused for another cause than memory is a reply in the history, and no fault of the run.
+/// A command that is refused for another cause than memory is a reply in the history, and no fault
+/// of the run.
 pub fn run<R: Threads + Wait + Sync, G: Gate + Sync>(
     rt: &R,
     alloc: Global,
@@ -33,10 +36,12 @@ pub fn run<R: Threads + Wait + Sync, G: Gate + Sync>(
     capacity: usize,
     gate: &G,
 ) -> Result<Report, RunFault>
-    ensures parts { IfOk result (λ report. AreParts (map (λ v. v.items) scripts.items) report.parts.items) }
+    ensures parts { IfOk result (λ report. AreParts (map (λ v. v.items) scripts.items)
+        report.parts.items) }
     ensures same { IfOk result (λ report. HoldSame report.parts.items) }
     ensures count { OnOk result (IsCount (length scripts.items) capacity) }
-    ensures bad { IfErr result (λ fault. fault ≡ RunFault.BadCount ↔ (IsCount (length scripts.items) capacity → ⊥)) }
+    ensures bad { IfErr result (λ fault. fault
+        ≡ RunFault.BadCount ↔ (IsCount (length scripts.items) capacity → ⊥)) }
 {
     if !is_count(scripts.len(), capacity) {
         return Err(RunFault::BadCount);
@@ -63,7 +68,8 @@ fn run_scripts<R: Threads + Wait + Sync, G: Gate + Sync>(
     gate: &G,
 ) -> Result<Report, WorkFault>
     requires { IsCount (length scripts.items) capacity }
-    ensures parts { IfOk result (λ report. AreParts (map (λ v. v.items) scripts.items) report.parts.items) }
+    ensures parts { IfOk result (λ report. AreParts (map (λ v. v.items) scripts.items)
+        report.parts.items) }
     ensures same { IfOk result (λ report. HoldSame report.parts.items) }
 {
     let nodes = nodes_of(alloc, scripts.len() as u8)?;
@@ -211,9 +217,11 @@ fn part_of(alloc: Global, node: Node, commands: usize, seats: Vec<Seat>) -> Resu
     }
 }
 
-/// The report of these parts, where they show the scripts and that each processor took what the others issued.
+/// The report of these parts, where they show the scripts and that each processor took what the
+/// others issued.
 fn report_of(scripts: &[Vec<Command>], parts: Vec<Part>) -> Result<Report, WorkFault>
-    ensures parts { IfOk result (λ report. AreParts (map (λ v. v.items) scripts.now) report.parts.items) }
+    ensures parts { IfOk result (λ report. AreParts (map (λ v. v.items) scripts.now)
+        report.parts.items) }
     ensures same { IfOk result (λ report. HoldSame report.parts.items) }
     ensures fault { IfErr result (λ fault. fault ≡ WorkFault.Link) }
 {

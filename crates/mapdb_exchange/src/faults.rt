@@ -1,7 +1,7 @@
 //! Why an exchange gives no report, and which of several faults is told.
 
 ghost use Rattle.std.specs.Prelude.{◌≡◌, [], ◌∷◌, ◌++◌, List, nat_lt, IfNone, IfSome};
-ghost use Rattle.mapdb_exchange.specs.Faults.{IsFirst, node_turn, turn};
+ghost use Rattle.mapdb_exchange.specs.Faults.{IsFirstFault, node_turn, fault_turn};
 ghost use Rattle.mapdb_exchange.specs.declared.faults.WorkFault.{WorkFault};
 
 use mapdb_node::CallFault;
@@ -24,7 +24,8 @@ pub enum NodeFault {
 /// Why an exchange gives no report. They are told in this order.
 #[derive(Clone, Copy, Debug, PartialEq, Eq)]
 pub enum RunFault {
-    /// There is no script, or there are more than 4; or the capacity is 0, or more than 1,024. No thread was started.
+    /// There is no script, or there are more than 4; or the capacity is 0, or more than 1,024. No
+    /// thread was started.
     BadCount,
     /// Memory was wanted, by the exchange or inside an event.
     Memory,
@@ -34,8 +35,8 @@ pub enum RunFault {
     Node(NodeFault),
     /// The gate did not let a call pass.
     Gate,
-    /// A link did not carry a message, or carried another than it should; or the histories do not show the scripts, or not
-    /// that each processor took what the others issued.
+    /// A link did not carry a message, or carried another than it should; or the histories do not
+    /// show the scripts, or not that each processor took what the others issued.
     Link,
 }
 
@@ -132,7 +133,7 @@ impl From<WorkFault> for RunFault {
 impl WorkFault {
     /// Whether this fault is told rather than the other.
     fn is_before(&self, other: &WorkFault) -> bool
-        ensures { result ≡ nat_lt (turn self.now) (turn other.now) }
+        ensures { result ≡ nat_lt (fault_turn self.now) (fault_turn other.now) }
     {
         match (*self, *other) {
             (_, WorkFault::Memory) => false,
@@ -152,7 +153,9 @@ impl WorkFault {
 /// Which fault is told, where one more is met after those of which this one is told.
 #[tactic(auto, using(crate::proofs::FirstFaults::still_first, crate::proofs::FirstFaults::new_first, crate::proofs::FirstFaults::only_first))]
 fn told_of(held: Option<WorkFault>, fault: &WorkFault) -> WorkFault
-    ensures { (faults : List WorkFault) → IfSome held (IsFirst faults) → IfNone held (faults ≡ []) → IsFirst (faults ++ fault.now ∷ []) result }
+    ensures { (faults : List WorkFault) → IfSome held (IsFirstFault faults)
+        → IfNone held (faults ≡ [])
+        → IsFirstFault (faults ++ fault.now ∷ []) result }
 {
     let Some(held) = held else {
         return *fault;
@@ -160,9 +163,10 @@ fn told_of(held: Option<WorkFault>, fault: &WorkFault) -> WorkFault
     if fault.is_before(&held) { *fault } else { held }
 }
 
-/// The fault that is told of several workers': the first of those that come first in the order of faults.
+/// The fault that is told of several workers': the first of those that come first in the order of
+/// faults.
 pub(crate) fn first_fault(faults: &[WorkFault]) -> Option<WorkFault>
-    ensures first { IfSome result (IsFirst faults.now) }
+    ensures first { IfSome result (IsFirstFault faults.now) }
     ensures none { IfNone result (faults.now ≡ []) }
 {
     let mut first = None;

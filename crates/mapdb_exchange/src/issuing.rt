@@ -1,7 +1,8 @@
 //! The issuing worker of a processor: it runs the script, and puts what is issued on the links.
 
 ghost use Rattle.std.specs.Prelude.{◌≡◌, ◌⊎◌, ◌++◌, length, map, IfErr, IfOk, OnOk};
-ghost use Rattle.mapdb_exchange.specs.Calls.{IsReadingFault, IsIssuingFault, commands_in, issued_in, own_in, place_after};
+ghost use Rattle.mapdb_exchange.specs.Calls.{IsReadingFault, IsIssuingFault, commands_in};
+ghost use Rattle.mapdb_exchange.specs.Calls.{issued_in, own_in, place_after};
 ghost use Rattle.mapdb_exchange.specs.Finishing.{AreFinished, sent_on};
 
 use crate::faults::{NodeFault, WorkFault};
@@ -14,7 +15,8 @@ use mapdb_replica::{Command, IssueFault};
 use std::alloc::Global;
 use std::sync::Wait;
 
-/// What an issuing worker has: its script, its seat, and its ends of the links to all other processors.
+/// What an issuing worker has: its script, its seat, and its ends of the links to all other
+/// processors.
 #[derive(Drop)]
 pub(crate) struct Issuing<'a> {
     pub(crate) script: &'a [Command],
@@ -22,8 +24,8 @@ pub(crate) struct Issuing<'a> {
     pub(crate) links: Vec<BatchSender>,
 }
 
-/// Runs the commands in order through the gate. After each that issued something it puts one batch on each link, and at
-/// the end Fin. At Ok the seat's commands are those of the script, in order.
+/// Runs the commands in order through the gate. After each that issued something it puts one batch
+/// on each link, and at the end Fin. At Ok the seat's commands are those of the script, in order.
 pub(crate) fn issue_all<R: Wait, G: Gate>(
     rt: &R,
     alloc: Global,
@@ -34,7 +36,8 @@ pub(crate) fn issue_all<R: Wait, G: Gate>(
     links: Vec<BatchSender>,
 ) -> Result<Vec<Outgoing>, WorkFault>
     ensures finished { IfOk result (λ ends. AreFinished (map sent_on links.items) ends.items) }
-    ensures commands { OnOk result (commands_in seat.new.calls ≡ commands_in seat.old.calls ++ script.now) }
+    ensures commands { OnOk result (commands_in seat.new.calls
+        ≡ commands_in seat.old.calls ++ script.now) }
     ensures fault { IfErr result (λ fault. (fault ≡ WorkFault.Link) ⊎ IsIssuingFault fault) }
 {
     let mut links = links;
@@ -89,7 +92,8 @@ fn own_ops<R: Wait>(
     Ok(ops)
 }
 
-/// The place so many places on, of an own operation. There is none beyond the places that a copy can have.
+/// The place so many places on, of an own operation. There is none beyond the places that a copy
+/// can have.
 fn place_after(first: u32, count: u32) -> Result<u32, WorkFault>
     ensures { result ≡ place_after first count }
 {

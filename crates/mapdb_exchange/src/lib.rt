@@ -1,5 +1,5 @@
-//! Processors that run their scripts side by side, each in threads of its own, and tell each other over links what they
-//! issue.
+//! Processors that run their scripts side by side, each in threads of its own, and tell each other
+//! over links what they issue.
 //!
 //! A [`link`] carries [`Message`]s in order from an [`Outgoing`] end to an [`Incoming`] one.
 #![tactic(auto)]

@@ -1,6 +1,7 @@
 //! A link from one worker to another. What is received is a beginning of what was put.
 
-ghost use Rattle.std.specs.Prelude.{◌≡◌, ◌≤◌, ◌<◌, ◌↔◌, List, true, false, [], ◌∷◌, ◌++◌, IfOk, IfErr, OnErr};
+ghost use Rattle.std.specs.Prelude.{◌≡◌, ◌≤◌, ◌<◌, ◌↔◌, List, true, false, [], ◌∷◌, ◌++◌, IfOk};
+ghost use Rattle.std.specs.Prelude.{IfErr, OnErr};
 ghost use Rattle.mapdb_exchange.specs.Faults.{is_after_fin, put_message};
 ghost use Rattle.mapdb_exchange.specs.Links.{has_fin};
 ghost use Rattle.mapdb_exchange.specs.declared.messages.Message.{Message};
@@ -34,9 +35,14 @@ impl Model for Outgoing {
     ghost use Rattle.crossbeam_channel.specs.Ends.{sends_on};
     ghost use Rattle.mapdb_exchange.specs.Links.{has_fin, IsFinLast};
 
-    ghost view = { λ o. record { link = record { table = o.pass.table_id; key = o.pass.me.0.of }; put = (known o.pass).put } };
+    ghost view = { λ o. record {
+      link = record { table = o.pass.table_id; key = o.pass.me.0.of };
+      put =
+          (known o.pass).put;
+    } };
 
-    ghost invariant = { λ o. IsSeatAt (sends_on o.sender) o.pass × ((known o.pass).sends ≡ true) × (o.is_ended ≡ has_fin (known o.pass).put) × IsFinLast (known o.pass).put };
+    ghost invariant = { λ o. IsSeatAt (sends_on o.sender) o.pass × ((known o.pass).sends ≡ true)
+        × (o.is_ended ≡ has_fin (known o.pass).put) × IsFinLast (known o.pass).put };
 }
 
 /// The end of a link that receives. Contracts see which link it is of, and what was received.
@@ -59,9 +65,14 @@ impl Model for Incoming {
     ghost use Rattle.mapdb_exchange.specs.Links.{has_fin};
     ghost use Rattle.mapdb_exchange.specs.declared.messages.Message.{Message};
 
-    ghost view = { λ o. record { link = record { table = o.pass.table_id; key = o.pass.me.0.of }; received = (known o.pass).received } };
+    ghost view = { λ o. record {
+      link = record { table = o.pass.table_id; key = o.pass.me.0.of };
+      received =
+          (known o.pass).received;
+    } };
 
-    ghost invariant = { λ o. IsSeatAt (receives_on o.receiver) o.pass × ((known o.pass).receives ≡ true) × (o.is_finished ≡ has_fin (known o.pass).received) };
+    ghost invariant = { λ o. IsSeatAt (receives_on o.receiver) o.pass
+        × ((known o.pass).receives ≡ true) × (o.is_finished ≡ has_fin (known o.pass).received) };
 }
 
 /// Why no link was made.
@@ -147,10 +158,12 @@ impl Outgoing {
 impl Incoming {
     /// Receives the message at the front. It waits while there is none.
     pub fn next<R: Wait>(&mut self, rt: &R) -> Result<Message, NextFault>
-        ensures received { IfOk result (λ message. self.new.received ≡ self.old.received ++ message ∷ []) }
+        ensures received { IfOk result (λ message. self.new.received
+            ≡ self.old.received ++ message ∷ []) }
         ensures kept { OnErr result (self.new.received ≡ self.old.received) }
         ensures going { IfOk result (λ message. has_fin self.old.received ≡ false) }
-        ensures finished { IfErr result (λ fault. (fault ≡ NextFault.Finished) ↔ (has_fin self.old.received ≡ true)) }
+        ensures finished { IfErr result (λ fault. (fault ≡ NextFault.Finished)
+            ↔ (has_fin self.old.received ≡ true)) }
         ensures link { self.new.link ≡ self.old.link }
     {
         if self.is_finished {

@@ -27,8 +27,8 @@ pub(crate) fn inboxes_of(alloc: Global, count: u8) -> Result<Vec<Inbox>, AllocEr
     Ok(inboxes)
 }
 
-/// Makes all links among so many processors. Their ends that receive go to the inboxes; those that put are given for each
-/// processor in order.
+/// Makes all links among so many processors. Their ends that receive go to the inboxes; those that
+/// put are given for each processor in order.
 pub(crate) fn outboxes_of<R: Wait>(
     rt: &R,
     alloc: Global,

@@ -1,7 +1,7 @@
 //! Starts all workers side by side, and waits for all.
 
 ghost use Rattle.std.specs.Prelude.{◌≡◌, ◌⊎◌, ◌++◌, [], None, length, IfErr, IfOk, OnOk, map};
-ghost use Rattle.mapdb_exchange.specs.Faults.{IsFirst, listed, missing};
+ghost use Rattle.mapdb_exchange.specs.Faults.{IsFirstFault, listed, missing};
 ghost use Rattle.mapdb_exchange.specs.Workers.{faults_of};
 
 use crate::faults::{Unstarted, WorkFault, first_fault};
@@ -19,7 +19,8 @@ struct Started {
     unstarted: Option<Unstarted>,
 }
 
-/// What the workers that were started ended with, in the order of their posts, and why no more were started, if that is so.
+/// What the workers that were started ended with, in the order of their posts, and why no more were
+/// started, if that is so.
 #[derive(Drop)]
 pub(crate) struct Ends {
     ended: Vec<Ended>,
@@ -33,7 +34,8 @@ pub(crate) fn run_all<R: Threads + Wait + Sync, G: Gate + Sync>(
     gate: &G,
     posts: Vec<Post>,
 ) -> Result<Ends, AllocError>
-    ensures { IfOk result (λ ends. ends.unstarted ≡ None → length ends.ended.items ≡ length posts.entry.items) }
+    ensures { IfOk result (λ ends. ends.unstarted ≡ None
+        → length ends.ended.items ≡ length posts.entry.items) }
 {
     thread::scope(thread::scope_env(), rt, move |scope| {
         let Started { handles, unstarted } = start_all(scope, rt, alloc, gate, posts)?;
@@ -50,7 +52,8 @@ fn start_all<'s, 'e: 's, R: Wait + Sync, G: Gate + Sync>(
     gate: &'e G,
     posts: Vec<Post<'e>>,
 ) -> Result<Started, AllocError>
-    ensures { IfOk result (λ started. started.unstarted ≡ None → length started.handles.items ≡ length posts.entry.items) }
+    ensures { IfOk result (λ started. started.unstarted ≡ None
+        → length started.handles.items ≡ length posts.entry.items) }
 {
     let mut handles = Vec::with_capacity(alloc, posts.len())?;
     for post in posts {
@@ -82,12 +85,15 @@ fn join_all<R: Threads>(
     Ok(ended)
 }
 
-/// The seats of all workers, in the order of the posts, where each was started and none ended early. Of several faults one is
-/// told, as [`first_fault`] says: that of a worker which was not started stands before those of the others.
+/// The seats of all workers, in the order of the posts, where each was started and none ended
+/// early. Of several faults one is told, as [`first_fault`] says: that of a worker which was not
+/// started stands before those of the others.
 #[tactic(auto, using(crate::proofs::MetFaults::met_more, crate::proofs::MetFaults::seats_more))]
 pub(crate) fn seats_of(alloc: Global, ends: Ends) -> Result<Vec<Seat>, WorkFault>
-    ensures first { IfErr result (λ fault. (fault ≡ WorkFault.Memory) ⊎ IsFirst (listed (missing ends.unstarted) ++ faults_of ends.ended.items) fault) }
-    ensures none { OnOk result (listed (missing ends.unstarted) ++ faults_of ends.ended.items ≡ []) }
+    ensures first { IfErr result (λ fault. (fault ≡ WorkFault.Memory)
+        ⊎ IsFirstFault (listed (missing ends.unstarted) ++ faults_of ends.ended.items) fault) }
+    ensures none { OnOk result (listed (missing ends.unstarted) ++ faults_of ends.ended.items
+        ≡ []) }
     ensures seats { IfOk result (λ seats. seats.items ≡ map (λ e. e.seat) ends.ended.items) }
 {
     let Ends { ended, unstarted } = ends;

@@ -32,8 +32,9 @@ impl BatchReceiver {
         BatchReceiver { from, to, end }
     }
 
-    /// Receives until Fin, and takes each operation of each batch into the node. What was received then is batches of this
-    /// link, numbered from 0 on, and Fin; and what was taken from the seat and is held is what these batches carried, in order.
+    /// Receives until Fin, and takes each operation of each batch into the node. What was received
+    /// then is batches of this link, numbered from 0 on, and Fin; and what was taken from the seat
+    /// and is held is what these batches carried, in order.
     #[tactic(auto, using(crate::proofs::Numbering::batches_put, crate::proofs::Numbering::fin_put, crate::proofs::MoreCalls::batch_taken, crate::proofs::MoreCalls::fin_taken))]
     pub(crate) fn receive_all<R: Wait>(
         self,
@@ -42,7 +43,8 @@ impl BatchReceiver {
         seat: &mut Seat,
     ) -> Result<Incoming, WorkFault>
         ensures numbered { IfOk result (λ end. AreNumbered self.from self.to 0 end.received) }
-        ensures taken { IfOk result (λ end. held_in seat.new.calls ≡ held_in seat.old.calls ++ ops_in end.received) }
+        ensures taken { IfOk result (λ end. held_in seat.new.calls
+            ≡ held_in seat.old.calls ++ ops_in end.received) }
         ensures fault { IfErr result (λ fault. (fault ≡ WorkFault.Link) ⊎ IsTakingFault fault) }
     {
         let BatchReceiver { from, to, mut end } = self;
@@ -66,7 +68,8 @@ fn next_message<R: Wait>(
     to: u8,
     index: u32,
 ) -> Result<Message, WorkFault>
-    ensures received { IfOk result (λ message. end.new.received ≡ end.old.received ++ message ∷ []) }
+    ensures received { IfOk result (λ message. end.new.received
+        ≡ end.old.received ++ message ∷ []) }
     ensures expected { IfOk result (λ message. is_expected from to index message ≡ true) }
     ensures fault { IfErr result (λ fault. fault ≡ WorkFault.Link) }
 {
@@ -86,7 +89,8 @@ fn is_expected(message: &Message, from: u8, to: u8, index: u32) -> bool
     }
 }
 
-/// Takes operations into a node, one by one. At Ok these were taken from the seat, in order, and are held.
+/// Takes operations into a node, one by one. At Ok these were taken from the seat, in order, and
+/// are held.
 fn take_all<R: Wait>(rt: &R, node: &Node, seat: &mut Seat, ops: &[Op]) -> Result<(), WorkFault>
     ensures taken { OnOk result (held_in seat.new.calls ≡ held_in seat.old.calls ++ ops.now) }
     ensures fault { IfErr result IsTakingFault }

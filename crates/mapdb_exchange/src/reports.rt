@@ -1,8 +1,12 @@
 //! What an exchange reports, and the comparison of the histories of all processors.
 
-ghost use Rattle.std.specs.Prelude.{◌≡◌, ◌<◌, ◌≤◌, ◌≢◌, ◌∷◌, ◌+◌, ◌↔◌, ℕ, true, not, IsTrue, length, map, drop, slice_index, slice_index_or, ◌==◌};
+ghost use Rattle.std.specs.Prelude.{◌≡◌, ◌<◌, ◌≤◌, ◌≢◌, ◌∷◌, ◌+◌, ◌↔◌, ℕ, true, not, IsTrue};
+ghost use Rattle.std.specs.Prelude.{length, map, drop, slice_index, slice_index_or, ◌==◌};
 ghost use Rattle.std.specs.List.{list_all, list_any};
-ghost use Rattle.mapdb_exchange.specs.Reports.{AreApart, AreParts, HoldSame, IsPart, at_seat, is_heard, issues_of, place_of, takes_of, wanted_memory};
+ghost use Rattle.mapdb_exchange.specs.Reports.{NoneTwice, AreParts, HoldSame, IsPartOfReport};
+ghost use Rattle.mapdb_exchange.specs.Reports.{at_seat};
+ghost use Rattle.mapdb_exchange.specs.Reports.{is_heard, issues_of, hearer_place, takes_of};
+ghost use Rattle.mapdb_exchange.specs.Reports.{wanted_memory};
 
 use mapdb_facts::Op;
 use mapdb_node::{Entry, History, NodeEvent, NodeReply};
@@ -15,8 +19,8 @@ pub struct Part {
     pub processor: u8,
     /// How many commands its script has.
     pub commands: usize,
-    /// The numbers of its workers' seats: the issuing worker's, and then those of the receiving workers, ascending by the
-    /// processor that each hears.
+    /// The numbers of its workers' seats: the issuing worker's, and then those of the receiving
+    /// workers, ascending by the processor that each hears.
     pub seats: Vec<u32>,
     /// All calls at its node, and its copy.
     pub history: History,
@@ -44,8 +48,8 @@ pub(crate) fn agrees(scripts: &[Vec<Command>], parts: &[Part]) -> bool
     true
 }
 
-/// Where each processor took what the others issued, each copy holds what all issued, and nothing else. This does nothing: it
-/// tells proofs so.
+/// Where each processor took what the others issued, each copy holds what all issued, and nothing
+/// else. This does nothing: it tells proofs so.
 pub(crate) fn hold_same(scripts: &[Vec<Command>], parts: &[Part])
     requires { AreParts (map (λ v. v.items) scripts.now) parts.now }
     ensures { HoldSame parts.now }
@@ -56,7 +60,8 @@ pub(crate) fn hold_same(scripts: &[Vec<Command>], parts: &[Part])
 /// Whether the part at a place is that of the processor of this number with this script.
 fn is_part(parts: &[Part], k: usize, script: &[Command]) -> bool
     requires { k < length parts.now }
-    ensures { IsTrue result → ((d : _) → IsPart parts.now k script.now (slice_index_or parts.now k d)) }
+    ensures { IsTrue result
+        → ((d : _) → IsPartOfReport parts.now k script.now (slice_index_or parts.now k d)) }
 {
     let part = &parts[k];
     let seats = part.seats.as_slice();
@@ -75,7 +80,7 @@ fn is_part(parts: &[Part], k: usize, script: &[Command]) -> bool
 
 /// Whether no number stands twice.
 fn are_apart(seats: &[u32]) -> bool
-    ensures { IsTrue result → AreApart seats.now }
+    ensures { IsTrue result → NoneTwice seats.now }
 {
     let mut rest = seats;
     while let Some((seat, others)) = rest.split_first() {
@@ -130,7 +135,9 @@ fn is_same_event(event: &NodeEvent, other: &NodeEvent) -> bool
 /// Whether each other processor's own operations are what was taken at the seat that hears it.
 fn hears_all(parts: &[Part], k: usize, seats: &[u32], entries: &[Entry]) -> bool
     requires { length seats.now ≡ length parts.now }
-    ensures { IsTrue result → ((q : ℕ) (d : _) → q < length parts.now → q ≢ k → takes_of (slice_index seats.now (place_of k q)) entries.now ≡ (slice_index_or parts.now q d).history.copy.own) }
+    ensures { IsTrue result → ((q : ℕ) (d : _) → q < length parts.now → q ≢ k
+        → takes_of (slice_index seats.now (hearer_place k q)) entries.now
+        ≡ (slice_index_or parts.now q d).history.copy.own) }
 {
     for q in 0..parts.len() {
         if q != k {
@@ -194,7 +201,8 @@ fn are_heard(entries: &[Entry], seats: &[u32]) -> bool
     entries.iter().all(|entry| is_heard(entry, seats))
 }
 
-/// Whether the entry, where it takes an operation, does so at one of these seats, and the operation is held.
+/// Whether the entry, where it takes an operation, does so at one of these seats, and the operation
+/// is held.
 fn is_heard(entry: &Entry, seats: &[u32]) -> bool
     ensures { result ≡ is_heard seats.now entry.now.seat entry.now.event entry.now.reply }
 {

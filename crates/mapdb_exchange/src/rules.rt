@@ -4,7 +4,8 @@ use crate::messages::Message;
 use crossbeam_channel::protocol::{Join, Lesson, Outcome, Protocol, Split};
 use std::collections::LinkedList;
 
-/// What the pass of an end of a link may do, and what it has put and received. No value of it is made.
+/// What the pass of an end of a link may do, and what it has put and received. No value of it is
+/// made.
 pub(crate) struct PassView {
     /// Whether the end puts.
     pub sends: bool,
@@ -77,7 +78,8 @@ impl Lesson<Message, PassView> for Receives {
     ghost fact = { λ v items. Unit {0} };
 }
 
-/// With both ends in one hand: what was put is what was received, followed by what the channel holds.
+/// With both ends in one hand: what was put is what was received, followed by what the channel
+/// holds.
 pub(crate) struct Compares;
 
 impl Lesson<Message, PassView> for Compares {

@@ -50,7 +50,8 @@ impl BatchSender {
     /// Puts what a command issued as the next batch.
     #[tactic(auto, using(crate::proofs::Numbering::batches_put))]
     pub(crate) fn send<R: Wait>(&mut self, rt: &R, ops: Ops) -> Result<(), WorkFault>
-        ensures put { OnOk result (self.new.end.put ≡ self.old.end.put ++ batch self.old.from self.old.to self.old.next ops ∷ []) }
+        ensures put { OnOk result (self.new.end.put
+            ≡ self.old.end.put ++ batch self.old.from self.old.to self.old.next ops ∷ []) }
         ensures from { self.new.from ≡ self.old.from }
         ensures to { self.new.to ≡ self.old.to }
         ensures link { self.new.end.link ≡ self.old.end.link }

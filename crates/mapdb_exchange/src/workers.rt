@@ -38,7 +38,8 @@ pub(crate) struct Ended {
     pub(crate) fault: Option<WorkFault>,
 }
 
-/// Works, and gives the seat back. The ends of the links are dropped, so that no other worker waits for this one.
+/// Works, and gives the seat back. The ends of the links are dropped, so that no other worker waits
+/// for this one.
 pub(crate) fn work<R: Wait, G: Gate>(rt: &R, alloc: Global, gate: &G, post: Post) -> Ended
     ensures worked { result.fault ≡ None → HasWorked post.entry.job result.seat }
     ensures fault { IfSome result.fault (MayTell post.entry.job) }

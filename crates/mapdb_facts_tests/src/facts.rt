@@ -98,7 +98,8 @@ fn one_page(page: u64) -> Option<Op> {
     }))
 }
 
-/// Takes the right to write from 65,536 pages of record 1, one after the other. Answers whether each was new.
+/// Takes the right to write from 65,536 pages of record 1, one after the other. Answers whether
+/// each was new.
 fn add_pages(facts: &mut Facts, order: PageOrder) -> Option<bool> {
     let mut all_new = true;
     for step in 0..=u16::MAX {

@@ -131,7 +131,7 @@ fn join_merge_map(rt: HostRuntime) -> Result<(), Fail> {
     let mut more = JoinMap::new(alloc);
     more.insert(3, Flat::new(30))?;
     assert!(rt; merges_twice(&mut map, &more)?);
-    assert!(rt; map.entries().len() == 3);
+    assert!(rt; map.len() == 3);
     assert!(rt; map.clone()?.covers(&map));
     let mut wrong = JoinMap::new(alloc);
     wrong.insert(2, Flat::new(20))?;

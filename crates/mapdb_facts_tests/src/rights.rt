@@ -10,8 +10,8 @@ use std::test::Fail;
 mod facts;
 mod index;
 
-/// Asserts that what was found is what is wanted. It is a function of its own, since a test with many assertions is long to
-/// prove.
+/// Asserts that what was found is what is wanted. It is a function of its own, since a test with
+/// many assertions is long to prove.
 fn expect<T: Copy + Debug + PartialEq>(rt: &impl Abort, found: T, wanted: T) {
     assert_eq!(rt; found, wanted);
 }
@@ -31,7 +31,8 @@ fn id(number: u64) -> RecordId {
     }
 }
 
-/// A record of the page at a byte address of space `number`, whose source is the page `source` of the parent.
+/// A record of the page at a byte address of space `number`, whose source is the page `source` of
+/// the parent.
 fn one_page(number: u16, addr: u64, parent: RecordId, source: u64, bits: u8) -> Result<Op, Fail> {
     Ok(Op::Born(Record {
         id: id(number as u64),

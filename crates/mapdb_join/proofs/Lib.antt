@@ -5,7 +5,8 @@ pub mod Sides
 pub mod Bounds
 pub mod Changes
 pub mod Keyed
-mod Parts
+pub mod Held
+pub mod Parts
 pub mod Counting
 pub mod Pieces
 pub mod Changing

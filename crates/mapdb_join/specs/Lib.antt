@@ -6,6 +6,8 @@ pub mod Entries
 pub mod Clashing
 pub mod Both
 pub mod Keys
+pub mod Held
+pub mod HeldLends
 pub mod Lends
 pub mod Runs
 pub mod Tidy

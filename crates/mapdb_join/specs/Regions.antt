@@ -16,4 +16,5 @@ pub record IsPageRange (range : PageRange) : Type 0 where
 -- the runs that have these bits alone
 abbrev pub starts_of : PageRange → List Start
 starts_of range =
-    record { page = range.first; bits = range.bits } ∷ record { page = range.first + range.count; bits = 0 } ∷ []
+    record { page = range.first; bits = range.bits }
+    ∷ record { page = range.first + range.count; bits = 0 } ∷ []

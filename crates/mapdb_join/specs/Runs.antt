@@ -1,14 +1,17 @@
 -- Runs of pages with equal bits, kept by where they start.
-use Rattle.std.specs.Prelude.{true, ◌≡◌, ◌≢◌, ◌⊎◌, ℕ, suc, Bool, ◌&&◌, ◌≤◌, ◌<◌, ◌+◌, ◌-◌, nat_le, nat_lt, slice_index_or, List, [], ◌∷◌, bit_or, if◌then◌else◌}
+use Rattle.std.specs.Prelude.{true, ◌≡◌, ◌≢◌, ◌⊎◌, ℕ, suc, Bool, ◌&&◌, ◌≤◌, ◌<◌, ◌+◌, ◌-◌, nat_le}
+use Rattle.std.specs.Prelude.{nat_lt, slice_index_or, List, [], ◌∷◌, bit_or, if◌then◌else◌}
 use Rattle.std.specs.List.{AllByRecursion}
 use Rattle.mapdb_join.specs.Bits.{has_bit}
 use Rattle.mapdb_join.specs.declared.runs.bounds.TheConstants.{BITS_LIMIT, RUN_LIMIT}
 use Rattle.mapdb_join.specs.declared.runs.starts.Start.{Start}
 
--- the bits at a page, where those in front of the list are given: those of the last start that is not above the page
+-- the bits at a page, where those in front of the list are given: those of the last start that is
+-- not above the page
 abbrev pub bits_after : ℕ → List Start → ℕ → ℕ
 bits_after before [] page = before
-bits_after before (start ∷ rest) page = if nat_lt page start.page then before else bits_after start.bits rest page
+bits_after before (start ∷ rest) page = if nat_lt page start.page then before
+    else bits_after start.bits rest page
 
 -- the bits behind the last start, where those in front of the list are given
 abbrev pub last_bits : ℕ → List Start → ℕ
@@ -43,8 +46,8 @@ Changes before (start ∷ rest) = (start.bits ≢ before) × Changes start.bits 
 abbrev pub IsBounded : Start → Type 0
 IsBounded start = (start.page ≤ RUN_LIMIT) × (start.bits < BITS_LIMIT)
 
--- Disjoint maximal runs of equal bits in ascending order: a run ends where the next start is, a start without bits is the
--- end of a run before a gap, and behind the last start there is nothing.
+-- Disjoint maximal runs of equal bits in ascending order: a run ends where the next start is, a
+-- start without bits is the end of a run before a gap, and behind the last start there is nothing.
 pub record IsRuns (starts : List Start) : Type 0 where
   pub ascending : Ascends 0 starts
   pub maximal : Changes 0 starts
@@ -57,14 +60,16 @@ has_at starts p = nat_lt p.0 (last_page 0 starts) && has_bit (bits_after 0 start
 
 -- the new bits are the old ones, with some added from one page up to another
 pub record IsOver (first end bits : ℕ) (old new : List Start) : Type 0 where
-  pub inside : (page : ℕ) → first ≤ page → page < end → bits_after 0 new page ≡ bit_or (bits_after 0 old page) bits
+  pub inside : (page : ℕ) → first ≤ page → page < end
+      → bits_after 0 new page ≡ bit_or (bits_after 0 old page) bits
   pub before : (page : ℕ) → page < first → bits_after 0 new page ≡ bits_after 0 old page
   pub behind : (page : ℕ) → end ≤ page → bits_after 0 new page ≡ bits_after 0 old page
 
 -- each page from one up to another has all of the bits
 abbrev pub HasOver : ℕ → ℕ → ℕ → List Start → Type 0
 HasOver first end bits starts =
-    (page : ℕ) → first ≤ page → page < end → bit_or (bits_after 0 starts page) bits ≡ bits_after 0 starts page
+    (page : ℕ) → first ≤ page → page < end
+    → bit_or (bits_after 0 starts page) bits ≡ bits_after 0 starts page
 
 -- each page has, of the first list, all bits that it has of the second
 abbrev pub CoversAll : List Start → List Start → Type 0
@@ -111,4 +116,5 @@ in_region first count bits p = nat_le first p.0 && nat_lt p.0 (first + count) &&
 
 -- the atoms of the region are there
 abbrev pub HasRegion : List Start → ℕ → ℕ → ℕ → Type 0
-HasRegion starts first count bits = (p : ℕ × ℕ) → in_region first count bits p ≡ true → has_at starts p ≡ true
+HasRegion starts first count bits = (p : ℕ × ℕ) → in_region first count bits p ≡ true
+    → has_at starts p ≡ true

@@ -1,5 +1,6 @@
 -- Lists of starts without those that change nothing.
-use Rattle.std.specs.Prelude.{ℕ, ◌==◌, ◌+◌, ◌-◌, List, [], ◌∷◌, ◌++◌, take, drop, map, bit_or, if◌then◌else◌}
+use Rattle.std.specs.Prelude.{ℕ, ◌==◌, ◌+◌, ◌-◌, List, [], ◌∷◌, ◌++◌, take, drop, map, bit_or}
+use Rattle.std.specs.Prelude.{if◌then◌else◌}
 use Rattle.mapdb_join.specs.Runs.{count_below, last_bits}
 use Rattle.mapdb_join.specs.declared.runs.starts.Start.{Start}
 
@@ -10,7 +11,8 @@ with_bits bits start = record { page = start.page; bits = bit_or start.bits bits
 -- the starts that change the bits, where those in front of the list are given
 abbrev pub tidy : ℕ → List Start → List Start
 tidy before [] = []
-tidy before (start ∷ rest) = if start.bits == before then tidy before rest else start ∷ tidy start.bits rest
+tidy before (start ∷ rest) = if start.bits == before then tidy before rest
+    else start ∷ tidy start.bits rest
 
 -- the starts from one page on that are below another
 abbrev pub middle : List Start → ℕ → ℕ → List Start
@@ -35,4 +37,5 @@ module _ (xs : List Start) (first end bits : ℕ) where
 
   -- the starts of the region with the bits added, and the one behind it
   abbrev pub region : List Start
-  region = record { page = first; bits = bit_or at_first bits } ∷ changes ++ record { page = end; bits = at_end } ∷ []
+  region = record { page = first; bits = bit_or at_first bits } ∷ changes
+      ++ record { page = end; bits = at_end } ∷ []

@@ -1,6 +1,8 @@
 //! Two values side by side.
-ghost use Rattle.mapdb_join.specs.Both.{has_either, excludes_either, atoms_either, IsPair, IsEitherSpot};
-ghost use Rattle.mapdb_join.specs.Lawful.Both.{exclusion_either, finite_either, joined_either, one_either_spot};
+ghost use Rattle.mapdb_join.specs.Both.{has_either, excludes_either, atoms_either, IsPair};
+ghost use Rattle.mapdb_join.specs.Both.{IsEitherSpot};
+ghost use Rattle.mapdb_join.specs.Lawful.Both.{exclusion_either, finite_either, joined_either};
+ghost use Rattle.mapdb_join.specs.Lawful.Both.{one_either_spot};
 
 use crate::exact::Representable;
 use crate::merge::{Merge, MergeFault};
@@ -87,9 +89,11 @@ impl<A: Merge, B: Merge> Merge for Both<A, B> {
 
     ghost exclusion = { exclusion_either A.exclusion B.exclusion };
 
-    ghost joined = { joined_either A.has B.has A.excludes B.excludes A.is_value B.is_value A.joined B.joined };
+    ghost joined = { joined_either A.has B.has A.excludes B.excludes A.is_value B.is_value A.joined
+        B.joined };
 
-    ghost one_spot = { one_either_spot A.has B.has A.excludes B.excludes A.is_value B.is_value A.is_spot B.is_spot A.one_spot B.one_spot };
+    ghost one_spot = { one_either_spot A.has B.has A.excludes B.excludes A.is_value B.is_value
+        A.is_spot B.is_spot A.one_spot B.one_spot };
 
     ghost finite = { finite_either A.has B.has A.atoms B.atoms A.finite B.finite };
 }

@@ -14,7 +14,8 @@ use crate::merge::Merge;
 /// each other have the same atoms.
 pub fn partial_order<T: Merge>()
     ensures reflexive { (a : T) → Includes T.has a a }
-    ensures transitive { (a b c : T) → Includes T.has a b → Includes T.has b c → Includes T.has a c }
+    ensures transitive { (a b c : T) → Includes T.has a b → Includes T.has b c
+        → Includes T.has a c }
     ensures antisymmetric { (a b : T) → Includes T.has a b → Includes T.has b a → IsSame T.has a b }
 {}
 

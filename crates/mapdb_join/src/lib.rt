@@ -11,14 +11,12 @@
 //! an atom that excludes an atom of the other. Exactly these have no join, nor any common upper
 //! bound. [`Merge::clash`] names the spot, and [`Merge::merge`] then changes nothing.
 //!
-//! | Type | Its atoms | What clashes | A spot |
-//! |---|---|---|---|
-//! | [`Flat<T>`](Flat) | its one value | two different values | `()` |
-//! | [`BitsOr`] | the bits that are set in a byte | nothing | `()` |
-//! | [`Grow<K>`](Grow) | its keys | nothing | `()` |
-//! | [`Runs`] | the bits of each page | nothing | `()` |
-//! | [`JoinMap<K, V>`](JoinMap) | each atom of a value, with its key | values under one key | the least such key, with the spot there |
-//! | [`Both<A, B>`](Both) | the atoms of its two parts | the parts | the part, the first one first, with the spot there |
+//! | Type | Its atoms | What clashes | A spot | |---|---|---|---| | [`Flat<T>`](Flat) | its one
+//! value | two different values | `()` | | [`BitsOr`] | the bits that are set in a byte | nothing |
+//! `()` | | [`Grow<K>`](Grow) | its keys | nothing | `()` | | [`Runs`] | the bits of each page |
+//! nothing | `()` | | [`JoinMap<K, V>`](JoinMap) | each atom of a value, with its key | values
+//! under one key | the least such key, with the spot there | | [`Both<A, B>`](Both) | the atoms of
+//! its two parts | the parts | the part, the first one first, with the spot there |
 //!
 //! # One value
 //!
@@ -91,7 +89,8 @@
 //!
 //! A value that may grow takes its allocator when it is made, and making it takes no memory. Only
 //! calls whose answer has an error take any. `merge` that wants memory leaves something between
-//! the old value and the join; every other call leaves all as it was.
+//! the old value and the join; every other call leaves all as it was. The one entry of a map lies
+//! in the map itself, and a tree is made for the second.
 //!
 //! # Types of your own
 //!
@@ -111,6 +110,7 @@ mod map;
 mod merge;
 mod part;
 mod runs;
+mod walks;
 
 pub use bits::BitsOr;
 pub use both::{Both, OneOf};

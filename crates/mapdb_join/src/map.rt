@@ -1,5 +1,6 @@
 //! A map of values that merge.
-ghost use Rattle.std.specs.Prelude.{◌≡◌, [], ◌∷◌, false, None, Some, IsSome, IfSome, OnOk, IfOk, IfErr, OnErr, MatchOption};
+ghost use Rattle.std.specs.Prelude.{◌≡◌, [], ◌∷◌, false, None, Some, IsSome, IfSome, OnOk, IfOk};
+ghost use Rattle.std.specs.Prelude.{IfErr, OnErr, MatchOption, length};
 ghost use Rattle.std.specs.Borrow.{sem};
 ghost use Rattle.std.specs.Option.{option_copied, option_copied_mut};
 ghost use Rattle.std.specs.Map.{lookup};
@@ -9,17 +10,18 @@ ghost use Rattle.std.specs.BTreeMap.Range.{IsLeBy};
 ghost use Rattle.mapdb_join.specs.Keys.{IsAbove};
 ghost use Rattle.mapdb_join.specs.Atoms.{IsSame, IsUnion, Clashes};
 ghost use Rattle.mapdb_join.specs.Faults.{FaultLeaves};
-ghost use Rattle.mapdb_join.specs.Entries.{has_under, holds_key, excludes_under, atoms_under, IsMap, IsFirstClash, IsChangedAt, IsPartMerged};
+ghost use Rattle.mapdb_join.specs.Entries.{has_under, holds_key, excludes_under, atoms_under};
+ghost use Rattle.mapdb_join.specs.Entries.{IsMap, IsFirstClash, IsChangedAt, IsPartMerged};
 ghost use Rattle.mapdb_join.specs.Lawful.Exact.{exact_cmp};
-ghost use Rattle.mapdb_join.specs.Lawful.Entries.{exclusion_under, finite_under, joined_under, one_first_spot};
+ghost use Rattle.mapdb_join.specs.Lawful.Entries.{exclusion_under, finite_under, joined_under};
+ghost use Rattle.mapdb_join.specs.Lawful.Entries.{one_first_spot};
 
-use crate::entries::{all_none, covers_all, first_clash, merge_all, prove_entries};
+use crate::entries::Entries;
 use crate::exact::{Exact, Representable};
 use crate::merge::{Merge, MergeFault};
+use crate::walks::{all_none, covers_all, first_clash, merge_all, prove_entries};
 use std::alloc::{AllocError, Global};
-use std::collections::BTreeMap;
 use std::marker::Model;
-use std::ops::Bound;
 
 /// A map whose values merge key by key, nested at will. Two maps clash where the values under one
 /// key clash, and the clash that is named has the least such key.
@@ -29,7 +31,7 @@ use std::ops::Bound;
 #[derive(Clone, Debug, Drop)]
 pub struct JoinMap<K: Ord, V> {
     pub(crate) alloc: Global,
-    pub(crate) map: BTreeMap<K, V>,
+    pub(crate) entries: Entries<K, V>,
 }
 
 impl<K: Ord, V> Model for JoinMap<K, V> {
@@ -37,7 +39,9 @@ impl<K: Ord, V> Model for JoinMap<K, V> {
 
     ghost Value = { List (K × V) };
 
-    ghost view = { λ a. a.map.entries };
+    ghost use Rattle.mapdb_join.specs.Held.{entries_of};
+
+    ghost view = { λ a. entries_of a.entries };
 }
 
 impl<K: Ord + Exact, V: Merge> JoinMap<K, V> {
@@ -50,22 +54,22 @@ impl<K: Ord + Exact, V: Merge> JoinMap<K, V> {
     {
         JoinMap {
             alloc,
-            map: BTreeMap::new(alloc),
+            entries: Entries::new(alloc),
         }
     }
 
-    /// The entries, in the order of their keys.
-    pub fn entries(&self) -> &BTreeMap<K, V>
-        ensures { result.now.entries ≡ self.now }
+    /// How many entries the map has.
+    pub fn len(&self) -> usize
+        ensures { result ≡ length self.now }
     {
-        &self.map
+        self.entries.len()
     }
 
     /// The value under a key.
     pub fn get(&self, key: &K) -> Option<&V>
         ensures { option_copied result ≡ lookup (is_at (K.cmp key.now)) self.now }
     {
-        self.map.get(key)
+        self.entries.get(key)
     }
 
     /// The value under a key, to change it. What is written there changes no other entry.
@@ -73,7 +77,7 @@ impl<K: Ord + Exact, V: Merge> JoinMap<K, V> {
         ensures* writes_back { sem 𝓛 (lends_value K.row V.row K.Ord self.entry key.now result) }
         ensures value { option_copied_mut result ≡ lookup (is_at (K.cmp key.now)) self.old }
     {
-        self.map.get_mut(key)
+        self.entries.get_mut(key)
     }
 
     /// The least key above another, or of all at `None`, with its value. `None` where there is no
@@ -87,15 +91,7 @@ impl<K: Ord + Exact, V: Merge> JoinMap<K, V> {
         ensures least { IfSome result (λ p. (q : K) → IsAbove K.cmp after q →
             IsSome (lookup (is_at (K.cmp q)) self.now) → IsLeBy K.cmp p.0 q) }
     {
-        let start = match &after {
-            Some(key) => Bound::Excluded(key),
-            None => Bound::Unbounded,
-        };
-        let end: Bound<&K> = Bound::Unbounded;
-        match self.map.range((start, end)).next() {
-            Some((key, value)) => Some((*key, value)),
-            None => None,
-        }
+        self.entries.next(after)
     }
 
     /// The greatest key, and `None` where the map is empty.
@@ -105,10 +101,7 @@ impl<K: Ord + Exact, V: Merge> JoinMap<K, V> {
         ensures greatest { IfSome result (λ k. (q : K) →
             IsSome (lookup (is_at (K.cmp q)) self.now) → is_lt (K.cmp k q) ≡ false) }
     {
-        match self.map.last_key_value() {
-            Some((key, _)) => Some(*key),
-            None => None,
-        }
+        self.entries.last()
     }
 
     /// Puts a value under a key that is absent.
@@ -118,11 +111,11 @@ impl<K: Ord + Exact, V: Merge> JoinMap<K, V> {
         requires { lookup (is_at (K.cmp key)) self.old ≡ None }
         ensures ok { OnOk result (self.new ≡ insert_entry K.cmp self.old key value) }
         ensures alone { OnOk result (IsChangedAt K.cmp self.old self.new key value) }
-        ensures atoms { OnOk result (IsUnion (has_under K.cmp V.has) self.old ((key, value) ∷ []) self.new) }
+        ensures atoms { OnOk result (IsUnion (has_under K.cmp V.has) self.old ((key, value) ∷ [])
+            self.new) }
         ensures err { OnErr result (self.new ≡ self.old) }
     {
-        self.map.insert(key, value)?;
-        Ok(())
+        self.entries.insert(self.alloc, key, value)
     }
 }
 
@@ -130,7 +123,7 @@ impl<K: Ord + Exact, V: Representable> Representable for JoinMap<K, V> {
     ghost is_value = { IsMap K.cmp K.is_value V.is_value };
 
     fn prove_value(&self) {
-        prove_entries(&self.map);
+        prove_entries(&self.entries);
     }
 }
 
@@ -148,35 +141,36 @@ impl<K: Ord + Exact, V: Merge> Merge for JoinMap<K, V> {
     ghost atoms = { atoms_under V.atoms };
 
     fn covers(&self, other: &JoinMap<K, V>) -> bool {
-        covers_all(&self.map, &other.map)
+        covers_all(&self.entries, &other.entries)
     }
 
     fn clash(&self, other: &JoinMap<K, V>) -> Option<(K, V::Spot)> {
-        first_clash(&self.map, &other.map)
+        first_clash(&self.entries, &other.entries)
     }
 
     /// Leaves the keys of both, also those without atoms. Where memory was wanted, the keys lie
     /// between the old ones and those of both, and the value under a new key is whole.
     fn merge(&mut self, other: &JoinMap<K, V>) -> Result<(), MergeFault<(K, V::Spot)>>
         ensures ok { OnOk result (IsUnion (has_under K.cmp V.has) self.old other.now self.new
-            × (Clashes (has_under K.cmp V.has) (excludes_under V.excludes) self.old other.now → ⊥)) }
+            × (Clashes (has_under K.cmp V.has) (excludes_under V.excludes) self.old other.now
+            → ⊥)) }
         ensures err { IfErr result (FaultLeaves (has_under K.cmp V.has) (excludes_under V.excludes)
             (IsFirstClash K.cmp V.has V.excludes V.is_spot) self.old other.now self.new) }
         ensures keys { OnOk result (IsUnion (holds_key K.cmp) self.old other.now self.new) }
         ensures part { IfErr result (λ fault. fault ≡ MergeFault.Memory →
             IsPartMerged K.cmp V.has self.old other.now self.new) }
     {
-        if let Some(spot) = first_clash(&self.map, &other.map) {
+        if let Some(spot) = first_clash(&self.entries, &other.entries) {
             return Err(MergeFault::Clash(spot));
         }
-        match merge_all(&mut self.map, &other.map) {
+        match merge_all(&mut self.entries, self.alloc, &other.entries) {
             Ok(()) => Ok(()),
             Err(_) => Err(MergeFault::Memory),
         }
     }
 
     fn is_none(&self) -> bool {
-        all_none(&self.map)
+        all_none(&self.entries)
     }
 
     /// The copy has the same keys too.
@@ -184,11 +178,11 @@ impl<K: Ord + Exact, V: Merge> Merge for JoinMap<K, V> {
         ensures same { IfOk result (λ c. IsSame (has_under K.cmp V.has) self.now c) }
         ensures keys { IfOk result (λ c. IsSame (holds_key K.cmp) self.now c) }
     {
-        let mut map = BTreeMap::new(self.alloc);
-        merge_all(&mut map, &self.map)?;
+        let mut entries = Entries::new(self.alloc);
+        merge_all(&mut entries, self.alloc, &self.entries)?;
         Ok(JoinMap {
             alloc: self.alloc,
-            map,
+            entries,
         })
     }
 
@@ -197,8 +191,9 @@ impl<K: Ord + Exact, V: Merge> Merge for JoinMap<K, V> {
     ghost joined = { joined_under K.total (exact_cmp K.cmp K.matches_eq K.exact) V.has V.excludes
         K.is_value V.is_value V.joined };
 
-    ghost one_spot = { one_first_spot K.total (exact_cmp K.cmp K.matches_eq K.exact) V.has V.excludes
-        V.is_spot V.one_spot };
+    ghost one_spot = { one_first_spot K.total (exact_cmp K.cmp K.matches_eq K.exact) V.has
+        V.excludes V.is_spot V.one_spot };
 
-    ghost finite = { finite_under K.cmp (exact_cmp K.cmp K.matches_eq K.exact) V.has V.atoms V.finite };
+    ghost finite = { finite_under K.cmp (exact_cmp K.cmp K.matches_eq K.exact) V.has V.atoms
+        V.finite };
 }

@@ -1,5 +1,6 @@
 //! What merges, and what is told when a merge is refused.
-ghost use Rattle.std.specs.Prelude.{◌≡◌, true, Bool, List, IsTrue, ◌↔◌, IfOk, IfSome, IfNone, OnOk, IfErr};
+ghost use Rattle.std.specs.Prelude.{◌≡◌, true, Bool, List, IsTrue, ◌↔◌, IfOk, IfSome, IfNone};
+ghost use Rattle.std.specs.Prelude.{OnOk, IfErr};
 ghost use Rattle.std.specs.List.{Contains};
 ghost use Rattle.mapdb_join.specs.Atoms.{Includes, IsSame, IsUnion, HasNone, Clashes, IsExclusion};
 ghost use Rattle.mapdb_join.specs.Faults.{FaultLeaves};
@@ -74,7 +75,8 @@ pub trait Merge: Representable + Drop {
     ghost exclusion: { IsExclusion has excludes };
 
     /// Two values of a program that do not clash have a union that a program can have.
-    ghost joined: { (a b : Self) → Self.is_value a → Self.is_value b → (Clashes has excludes a b → ⊥) →
+    ghost joined: { (a b : Self) → Self.is_value a → Self.is_value b
+        → (Clashes has excludes a b → ⊥) →
         (c : Self) × Self.is_value c × IsUnion has a b c };
 
     /// Two values clash first at one spot only.

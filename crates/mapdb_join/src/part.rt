@@ -7,15 +7,16 @@ ghost use Rattle.mapdb_join.specs.Bits.{has_bit};
 ghost use Rattle.mapdb_join.specs.Entries.{has_under, holds_key, excludes_under};
 ghost use Rattle.mapdb_join.specs.Grow.{has_key};
 ghost use Rattle.mapdb_join.specs.Faults.{FaultKeeps};
+ghost use Rattle.mapdb_join.specs.Held.{entries_of};
 
 use crate::bits::BitsOr;
+use crate::entries::{Entries, Entry};
 use crate::exact::Exact;
 use crate::flat::Flat;
 use crate::grow::Grow;
 use crate::map::JoinMap;
 use crate::merge::{Merge, MergeFault};
 use std::alloc::{AllocError, Global};
-use std::collections::BTreeMap;
 
 /// A value that takes one part as a whole or not at all.
 ///
@@ -36,7 +37,8 @@ pub trait MergePart: Merge {
     fn merge_part(&mut self, part: Self::Part) -> Result<(), MergeFault<()>>
         ensures ok { OnOk result (IsUnion Self.has self.old (alone part) self.new
             × (Clashes Self.has Self.excludes self.old (alone part) → ⊥)) }
-        ensures err { IfErr result (FaultKeeps Self.has Self.excludes self.old (alone part) self.new) };
+        ensures err { IfErr result (FaultKeeps Self.has Self.excludes self.old (alone part)
+            self.new) };
 
     /// A value with the atoms of this part alone. The only error is want of memory.
     fn of_part(alloc: Global, part: Self::Part) -> Result<Self, AllocError>
@@ -92,7 +94,8 @@ impl<K: Ord + Exact> MergePart for Grow<K> {
     fn merge_part(&mut self, part: K) -> Result<(), MergeFault<()>>
         ensures ok { OnOk result (IsUnion (has_key K.cmp) self.old (part ∷ []) self.new
             × (Clashes (has_key K.cmp) (λ _ _. ⊥) self.old (part ∷ []) → ⊥)) }
-        ensures err { IfErr result (FaultKeeps (has_key K.cmp) (λ _ _. ⊥) self.old (part ∷ []) self.new) }
+        ensures err { IfErr result (FaultKeeps (has_key K.cmp) (λ _ _. ⊥) self.old (part ∷ [])
+            self.new) }
         ensures absent { OnErr result (has_key K.cmp self.old part ≡ false) }
     {
         match self.add(part) {
@@ -110,19 +113,22 @@ impl<K: Ord + Exact> MergePart for Grow<K> {
 
 // Merges the part into the value under the key, and makes that value where it is absent.
 fn merge_at<K: Ord + Exact, V: MergePart>(
-    map: &mut BTreeMap<K, V>,
+    map: &mut Entries<K, V>,
     alloc: Global,
     key: K,
     part: V::Part,
 ) -> Result<(), MergeFault<()>>
     ensures ok { OnOk result (IsUnion (has_under K.cmp V.has)
-        map.old.entries ((key, V.alone part) ∷ []) map.new.entries
+        (entries_of map.old) ((key, V.alone part) ∷ []) (entries_of map.new)
         × (Clashes (has_under K.cmp V.has) (excludes_under V.excludes)
-        map.old.entries ((key, V.alone part) ∷ []) → ⊥)) }
+        (entries_of map.old) ((key, V.alone part) ∷ []) → ⊥)) }
     ensures err { IfErr result (FaultKeeps (has_under K.cmp V.has) (excludes_under V.excludes)
-        map.old.entries ((key, V.alone part) ∷ []) map.new.entries) }
-    ensures keys { OnOk result (IsUnion (holds_key K.cmp) map.old.entries ((key, V.alone part) ∷ []) map.new.entries) }
-    ensures others { (q : K) → is_at (K.cmp key) q ≡ false → lookup (is_at (K.cmp q)) map.new.entries ≡ lookup (is_at (K.cmp q)) map.old.entries }
+        (entries_of map.old) ((key, V.alone part) ∷ []) (entries_of map.new)) }
+    ensures keys { OnOk result (IsUnion (holds_key K.cmp) (entries_of map.old)
+        ((key, V.alone part) ∷ []) (entries_of map.new)) }
+    ensures others { (q : K) → is_at (K.cmp key) q ≡ false
+        → lookup (is_at (K.cmp q)) (entries_of map.new)
+        ≡ lookup (is_at (K.cmp q)) (entries_of map.old) }
 {
     if let Some(mine) = map.get_mut(&key) {
         return mine.merge_part(part);
@@ -130,7 +136,7 @@ fn merge_at<K: Ord + Exact, V: MergePart>(
     let Ok(value) = V::of_part(alloc, part) else {
         return Err(MergeFault::Memory);
     };
-    match map.insert(key, value) {
+    match map.insert(alloc, key, value) {
         Ok(_) => Ok(()),
         Err(_) => Err(MergeFault::Memory),
     }
@@ -155,17 +161,20 @@ impl<K: Ord + Exact, V: MergePart> MergePart for JoinMap<K, V> {
         ensures others { (q : K) → is_at (K.cmp part.0) q ≡ false →
             lookup (is_at (K.cmp q)) self.new ≡ lookup (is_at (K.cmp q)) self.old }
     {
-        merge_at(&mut self.map, self.alloc, part.0, part.1)
+        merge_at(&mut self.entries, self.alloc, part.0, part.1)
     }
 
     /// The map holds the part's key and no other, also where the part has no atoms.
     fn of_part(alloc: Global, part: (K, V::Part)) -> Result<JoinMap<K, V>, AllocError>
-        ensures same { IfOk result (λ v. IsSame (has_under K.cmp V.has) ((part.0, V.alone part.1) ∷ []) v) }
-        ensures keys { IfOk result (λ v. IsSame (holds_key K.cmp) ((part.0, V.alone part.1) ∷ []) v) }
+        ensures same { IfOk result (λ v. IsSame (has_under K.cmp V.has)
+            ((part.0, V.alone part.1) ∷ []) v) }
+        ensures keys { IfOk result (λ v. IsSame (holds_key K.cmp) ((part.0, V.alone part.1) ∷ [])
+            v) }
     {
-        let mut map = BTreeMap::new(alloc);
         let value = V::of_part(alloc, part.1)?;
-        map.insert(part.0, value)?;
-        Ok(JoinMap { alloc, map })
+        Ok(JoinMap {
+            alloc,
+            entries: Entries::One(Entry { key: part.0, value }),
+        })
     }
 }

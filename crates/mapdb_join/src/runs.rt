@@ -1,10 +1,12 @@
 //! Runs of pages with equal bits.
-ghost use Rattle.std.specs.Prelude.{◌≡◌, ◌≤◌, ◌<◌, ◌+◌, ◌↔◌, ◌||◌, ℕ, true, [], IsTrue, IfOk, IfErr, IfSome, IfNone, OnOk, OnErr, refl};
+ghost use Rattle.std.specs.Prelude.{◌≡◌, ◌≤◌, ◌<◌, ◌+◌, ◌↔◌, ◌||◌, ℕ, true, [], IsTrue, IfOk};
+ghost use Rattle.std.specs.Prelude.{IfErr, IfSome, IfNone, OnOk, OnErr, refl};
 ghost use Rattle.mapdb_join.specs.Atoms.{Clashes, IsSame, IsUnion};
 ghost use Rattle.mapdb_join.specs.Bits.{has_bit};
 ghost use Rattle.mapdb_join.specs.Faults.{FaultLeaves};
 ghost use Rattle.mapdb_join.specs.Lawful.Bits.{no_exclusion};
-ghost use Rattle.mapdb_join.specs.Runs.{HasNothingFrom, HasRegion, IsLeastRun, IsRuns, bits_after, has_at, in_region};
+ghost use Rattle.mapdb_join.specs.Runs.{HasNothingFrom, HasRegion, IsLeastRun, IsRuns, bits_after};
+ghost use Rattle.mapdb_join.specs.Runs.{has_at, in_region};
 ghost use Rattle.mapdb_join.specs.Lawful.United.{atoms_of, finite_atoms, joined_runs};
 
 mod bounds;
@@ -24,8 +26,8 @@ use std::alloc::{AllocError, Global};
 use std::marker::Model;
 use walks::{covers_all, merge_all};
 
-/// Bits of pages, kept as disjoint maximal runs of equal bits in ascending order. No bit of a page excludes another, so no
-/// two clash.
+/// Bits of pages, kept as disjoint maximal runs of equal bits in ascending order. No bit of a page
+/// excludes another, so no two clash.
 #[derive(Debug, Drop)]
 pub struct Runs {
     alloc: Global,
@@ -63,9 +65,11 @@ impl Runs {
         bits_at(self.starts.as_slice(), page)
     }
 
-    /// The least run whose last page is not below a page: its first page, how many pages it has, and their bits.
+    /// The least run whose last page is not below a page: its first page, how many pages it has,
+    /// and their bits.
     pub fn run_from(&self, page: u64) -> Option<(u64, u64, u8)>
-        ensures atoms { (q bit : ℕ) → has_at self.now (q, bit) ≡ has_bit (bits_after 0 self.now q) bit }
+        ensures atoms { (q bit : ℕ) → has_at self.now (q, bit)
+            ≡ has_bit (bits_after 0 self.now q) bit }
         ensures small { (q : ℕ) → bits_after 0 self.now q < BITS_LIMIT }
         ensures none { IfNone result (HasNothingFrom page self.now) }
         ensures some { IfSome result (λ run. IsLeastRun self.now page run.0 run.1 run.2) }
@@ -84,12 +88,13 @@ impl Runs {
         has_over(self.starts.as_slice(), first, first + count, bits)
     }
 
-    /// Adds bits to so many pages from a first one on, and answers whether a page lacked one of them. The only error is
-    /// want of memory, and then nothing has changed.
+    /// Adds bits to so many pages from a first one on, and answers whether a page lacked one of
+    /// them. The only error is want of memory, and then nothing has changed.
     pub fn add(&mut self, first: u64, count: u64, bits: u8) -> Result<bool, AllocError>
         requires limit { first + count ≤ RUN_LIMIT }
         requires small { bits < BITS_LIMIT }
-        ensures atoms { OnOk result ((p : ℕ × ℕ) → has_at self.new p ≡ (has_at self.old p || in_region first count bits p)) }
+        ensures atoms { OnOk result ((p : ℕ × ℕ)
+            → has_at self.new p ≡ (has_at self.old p || in_region first count bits p)) }
         ensures new { IfOk result (λ new. IsTrue new ↔ ¬ (HasRegion self.old first count bits)) }
         ensures err { OnErr result (self.new ≡ self.old) }
     {

@@ -9,4 +9,5 @@ waiting block = slice_range block.piece.items block.start block.end
 
 -- what waited, and then the text, is what was written, and then what waits
 abbrev pub Passes : Option (List ℕ) → Option (List ℕ) → List ℕ → List ℕ → List ℕ → Type 0
-Passes old new before after text = (written : List ℕ) × Appends old new written × (before ++ text ≡ written ++ after)
+Passes old new before after text = (written : List ℕ) × Appends old new written
+    × (before ++ text ≡ written ++ after)

@@ -1,6 +1,7 @@
 //! Replies that wait until there is a block of them.
 
-ghost use Rattle.std.specs.Prelude.{◌≡◌, ◌≤◌, ◌+◌, ◌++◌, [], ℕ, List, true, length, vec_len, IfOk, OnOk, OnErr};
+ghost use Rattle.std.specs.Prelude.{◌≡◌, ◌≤◌, ◌+◌, ◌++◌, [], ℕ, List, true, length, vec_len, IfOk};
+ghost use Rattle.std.specs.Prelude.{OnOk, OnErr};
 ghost use Rattle.mapdb_lines.specs.Fronts.{BeginsWith};
 
 use crate::streams::{Failed, Sink};
@@ -38,7 +39,8 @@ impl Block {
 
     /// Writes all that waits, or fails with a front of it written; the rest waits then.
     pub fn flush<W: Sink>(&mut self, writer: &mut W) -> Result<(), Failed>
-        ensures told { Passes (W.written writer.old) (W.written writer.new) (waiting self.old) (waiting self.new) [] }
+        ensures told { Passes (W.written writer.old) (W.written writer.new) (waiting self.old)
+            (waiting self.new) [] }
         ensures empty { OnOk result (waiting self.new ≡ []) }
         ensures room { OnOk result (self.new.end ≡ 0) }
         ensures kept { OnOk result (W.has_failed writer.new ≡ W.has_failed writer.old) }
@@ -63,13 +65,15 @@ impl Block {
         self.end = end;
     }
 
-    /// Has the text wait behind what waits already, or writes both. It fails with a front of them written.
+    /// Has the text wait behind what waits already, or writes both. It fails with a front of them
+    /// written.
     pub fn put<W: Sink>(&mut self, writer: &mut W, text: &[u8]) -> Result<(), Failed>
         ensures ok { OnOk result (Passes (W.written writer.old) (W.written writer.new)
             (waiting self.old) (waiting self.new) text.now) }
         ensures kept { OnOk result (W.has_failed writer.new ≡ W.has_failed writer.old) }
         ensures err { OnErr result ((part : List ℕ) × BeginsWith text.now part
-            × Passes (W.written writer.old) (W.written writer.new) (waiting self.old) (waiting self.new) part) }
+            × Passes (W.written writer.old) (W.written writer.new) (waiting self.old)
+            (waiting self.new) part) }
         ensures failed { OnErr result (W.has_failed writer.new ≡ true) }
     {
         if text.len() > BLOCK - self.end {

@@ -74,7 +74,8 @@ fn ends(alloc: Global, first: u16, count: u16) -> Result<Vec<Command>, AllocErro
     Ok(script)
 }
 
-/// Whether each part has so many commands and own operations, and each copy holds what the first one holds.
+/// Whether each part has so many commands and own operations, and each copy holds what the first
+/// one holds.
 fn has_counts(report: &Report, counts: &[usize]) -> bool {
     let Some(first) = report.parts.first() else {
         return false;
@@ -137,7 +138,8 @@ fn long_scripts(rt: HostRuntime) -> Result<(), Fail> {
     Ok(())
 }
 
-/// Asserts that an exchange of so many processors, over links of this capacity, is told as a bad count.
+/// Asserts that an exchange of so many processors, over links of this capacity, is told as a bad
+/// count.
 fn expect_bad_count<R: Abort + Threads + Wait + Sync>(
     rt: &R,
     alloc: Global,

@@ -1,4 +1,5 @@
-//! Tests of nodes, and of processors that run side by side, through what these libraries offer to others.
+//! Tests of nodes, and of processors that run side by side, through what these libraries offer to
+//! others.
 //!
 //! They stand in a crate beside the libraries, so that each library is proved once for all of them.
 #![tactic(auto)]

@@ -1,7 +1,7 @@
 //! What no contract says of nodes: that their calls succeed, and what threads that share one leave.
 //!
-//! Events are made before nodes, assertions stand in functions of their own, and tests are short: a test with many borrows
-//! and ways out is long to prove.
+//! Events are made before nodes, assertions stand in functions of their own, and tests are short: a
+//! test with many borrows and ways out is long to prove.
 
 use mapdb_facts::Space;
 use mapdb_fpage::{Fpage, MapItem, PAGE_BYTES, Rights};
@@ -58,7 +58,8 @@ fn map_and_read<R: Wait>(rt: &R, node: &Node, seat: &mut Seat, page: u64, to: u1
         && read.ok() == Some(NodeReply::Served(Some((page, Rights::ALL))))
 }
 
-/// Maps 100 pages of a thread to its space, and reads each back at once. Answers whether each is there.
+/// Maps 100 pages of a thread to its space, and reads each back at once. Answers whether each is
+/// there.
 fn work<R: Wait>(rt: &R, node: &Node, seat: &mut Seat, thread: u8) -> bool {
     let mut all_there = true;
     for turn in 0..100 {
@@ -127,7 +128,7 @@ fn expect_two(
 }
 
 #[test]
-fn two_threads(rt: HostRuntime) -> Result<(), Fail> {
+fn two_threads_one_node(rt: HostRuntime) -> Result<(), Fail> {
     let Some((node, mut one, mut other)) = two_seats(&rt, rt.alloc()) else {
         return Err(Fail::from("no seats"));
     };
@@ -136,7 +137,7 @@ fn two_threads(rt: HostRuntime) -> Result<(), Fail> {
 }
 
 #[test]
-fn seat_left_out(rt: HostRuntime) -> Result<(), Fail> {
+fn close_leaves_entries_out(rt: HostRuntime) -> Result<(), Fail> {
     let Some((node, one, mut other)) = two_seats(&rt, rt.alloc()) else {
         return Err(Fail::from("no seats"));
     };
@@ -178,7 +179,7 @@ fn strange_seat_hands_the_copy_back(rt: HostRuntime) -> Result<(), Fail> {
 }
 
 #[test]
-fn close_leaves_entries_out(rt: HostRuntime) -> Result<(), Fail> {
+fn entries_of_two_seats(rt: HostRuntime) -> Result<(), Fail> {
     let Some((node, mut one, mut other)) = two_seats(&rt, rt.alloc()) else {
         return Err(Fail::from("no seats"));
     };

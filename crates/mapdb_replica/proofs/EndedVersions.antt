@@ -10,7 +10,7 @@ use Rattle.mapdb_facts.specs.declared.names.Space.{Space}
 use Rattle.mapdb_facts.specs.declared.operations.Op.{Op}
 use Rattle.mapdb_facts.specs.declared.operations.Op.TheVariants.{Born, Closed, Cut}
 use Rattle.mapdb_facts.proofs.SameNames.{same_space_true}
-use Rattle.mapdb_replica.specs.Versions.{EndBefore, first_free, free_version, space_at}
+use Rattle.mapdb_replica.specs.Versions.{EndBefore, first_free, free_version, versioned_space}
 
 -- the place of the first end of the space
 place_of : List Op → Space → ℕ
@@ -55,24 +55,24 @@ same_place (Closed other ∷ ops) a b h k e =
 
 pub few_versions : (ops : List Op) (number count : ℕ) → EndBefore (state_of ops) number count → count ≤ length ops
 few_versions ops number count ended =
-    pigeonhole count (length ops) (λ v. place_of ops (space_at number v))
-    (λ v below. place_within ops (space_at number v) (ended v below))
-    (λ v w below_v below_w e. ap (λ (s : Space). s.version) (same_place ops (space_at number v) (space_at number w) (ended v below_v) (ended w below_w) e))
+    pigeonhole count (length ops) (λ v. place_of ops (versioned_space number v))
+    (λ v below. place_within ops (versioned_space number v) (ended v below))
+    (λ v w below_v below_w e. ap (λ (s : Space). s.version) (same_place ops (versioned_space number v) (versioned_space number w) (ended v below_v) (ended w below_w) e))
 
 -- one more version has ended
 pub one_more : (ops : List Op) (number version : ℕ) → EndBefore (state_of ops) number version
-    → (state_of ops).is_ended (space_at number version) ≡ true → EndBefore (state_of ops) number (version + 1)
+    → (state_of ops).is_ended (versioned_space number version) ≡ true → EndBefore (state_of ops) number (version + 1)
 one_more ops number version before now earlier less = by (nat_lt earlier version) refl
   where
-    by : (t : Bool) → nat_lt earlier version ≡ t → (state_of ops).is_ended (space_at number earlier) ≡ true
+    by : (t : Bool) → nat_lt earlier version ≡ t → (state_of ops).is_ended (versioned_space number earlier) ≡ true
     by true e = before earlier (ltb-true earlier version e)
     by false e =
         let high : version ≤ earlier = ltb-false earlier version e in
         let same : version ≡ earlier = omega arith in
-        subst (λ v. (state_of ops).is_ended (space_at number v) ≡ true) same now
+        subst (λ v. (state_of ops).is_ended (versioned_space number v) ≡ true) same now
 
 -- the first that lives, where those before it have ended
-first_found : (S : State) (number start version left : ℕ) → EndBefore S number version → S.is_ended (space_at number version) ≡ false
+first_found : (S : State) (number start version left : ℕ) → EndBefore S number version → S.is_ended (versioned_space number version) ≡ false
     → start ≤ version → version < start + left → first_free S number (range_with_len start left) ≡ version
 first_found S number start version zero before lives low high = absurd (omega (arith, low, high))
 first_found S number start version (suc left) before lives low high =
@@ -80,19 +80,19 @@ first_found S number start version (suc left) before lives low high =
   where
     by : (t : Bool) → nat_lt start version ≡ t
         → (start + 1 ≤ version → version < (start + 1) + left → first_free S number (range_with_len (start + 1) left) ≡ version)
-        → (if S.is_ended (space_at number start) then first_free S number (range_with_len (start + 1) left) else start) ≡ version
+        → (if S.is_ended (versioned_space number start) then first_free S number (range_with_len (start + 1) left) else start) ≡ version
     by true e again =
         let less : start < version = ltb-true start version e in
-        cond-true (S.is_ended (space_at number start)) (first_free S number (range_with_len (start + 1) left)) start (before start less)
+        cond-true (S.is_ended (versioned_space number start)) (first_free S number (range_with_len (start + 1) left)) start (before start less)
         ∙ again (omega (arith, less)) (omega (arith, high))
     by false e again =
         let least : version ≤ start = ltb-false start version e in
         let same : start ≡ version = omega (arith, low, least) in
-        cond-false (S.is_ended (space_at number start)) (first_free S number (range_with_len (start + 1) left)) start
-        (subst (λ v. S.is_ended (space_at number v) ≡ false) (sym same) lives) ∙ same
+        cond-false (S.is_ended (versioned_space number start)) (first_free S number (range_with_len (start + 1) left)) start
+        (subst (λ v. S.is_ended (versioned_space number v) ≡ false) (sym same) lives) ∙ same
 
 pub first_version : (ops : List Op) (number version : ℕ) → EndBefore (state_of ops) number version
-    → (state_of ops).is_ended (space_at number version) ≡ false → version ≤ length ops → version ≡ free_version ops number
+    → (state_of ops).is_ended (versioned_space number version) ≡ false → version ≤ length ops → version ≡ free_version ops number
 unfolding free_version
 first_version ops number version before lives most =
     sym (first_found (state_of ops) number 0 version (length ops + 1) before lives (omega arith) (omega (arith, most)))

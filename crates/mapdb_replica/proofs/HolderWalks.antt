@@ -16,7 +16,7 @@ use Rattle.mapdb_rights.specs.Live.{IsLive, IsLiveFrom, IsNextLive}
 use Rattle.mapdb_rights.specs.PageRights.{pair_with}
 use Rattle.mapdb_rights.specs.Right.{rights_at}
 use Rattle.mapdb_replica.specs.Issue.{holders}
-use Rattle.mapdb_replica.specs.Pairs.{Pair, pair_at}
+use Rattle.mapdb_replica.specs.Pairs.{Pair, holder_pair}
 use Rattle.mapdb_replica.specs.declared.pieces.Holder.{Holder}
 use Rattle.mapdb_replica.proofs.HolderNames.{ascending-holders, by_name}
 use Rattle.mapdb_replica.proofs.PairLaws.{into_from, into_to, not_root}
@@ -105,9 +105,9 @@ fewer_later after h hs rising k above =
 module _ {A : Type 0} (S : State) (page : ℕ) (step : A → Option Pair → A) (idle : (a : A) → step a None ≡ a) where
   abbrev pub over : A → List Holder → A
   over a [] = a
-  over a (h ∷ hs) = over (step a (pair_at S page h.id)) hs
+  over a (h ∷ hs) = over (step a (holder_pair S page h.id)) hs
 
-  over_none : (a : A) (xs ys : List Holder) → ((x : Holder) → IsAmong x xs → pair_at S page x.id ≡ None) → over a (xs ++ ys) ≡ over a ys
+  over_none : (a : A) (xs ys : List Holder) → ((x : Holder) → IsAmong x xs → holder_pair S page x.id ≡ None) → over a (xs ++ ys) ≡ over a ys
   over_none a [] ys none = refl
   over_none a (x ∷ xs) ys none =
       ap (λ (o : Option Pair). over (step a o) (xs ++ ys)) (none x (inl refl))
@@ -115,8 +115,8 @@ module _ {A : Type 0} (S : State) (page : ℕ) (step : A → Option Pair → A) 
       ∙ over_none a xs ys (λ y k. none y (inr k))
 
   pub over_next : (after : Option RecordId) (h : Holder) (hs : List Holder) → IsAscending by_name hs → IsAmong h hs → is_after after h.id ≡ true
-      → ((x : Holder) → IsAmong x hs → is_after after x.id ≡ true → is_before x.id h.id ≡ true → pair_at S page x.id ≡ None)
-      → (a : A) → over a (later after hs) ≡ over (step a (pair_at S page h.id)) (later (Some h.id) hs)
+      → ((x : Holder) → IsAmong x hs → is_after after x.id ≡ true → is_before x.id h.id ≡ true → holder_pair S page x.id ≡ None)
+      → (a : A) → over a (later after hs) ≡ over (step a (holder_pair S page h.id)) (later (Some h.id) hs)
   over_next after h hs rising k above none a =
       let parts = split after h hs rising k above in
       ap (λ (xs : List Holder). over a xs) parts.1.is
@@ -124,7 +124,7 @@ module _ {A : Type 0} (S : State) (page : ℕ) (step : A → Option Pair → A) 
       (λ x among. let at = parts.1.between x among in none x at.0 at.1 at.2)
 
   pub over_end : (after : Option RecordId) (hs : List Holder)
-      → ((x : Holder) → IsAmong x hs → is_after after x.id ≡ true → pair_at S page x.id ≡ None) → (a : A) → over a (later after hs) ≡ a
+      → ((x : Holder) → IsAmong x hs → is_after after x.id ≡ true → holder_pair S page x.id ≡ None) → (a : A) → over a (later after hs) ≡ a
   over_end after [] none a = refl
   over_end after (x ∷ xs) none a = elim (cases_Bool (is_after after x.id)) [
     | inl here ↦
@@ -139,14 +139,14 @@ module _ {A : Type 0} (S : State) (page : ℕ) (step : A → Option Pair → A) 
 
 -- The holders of a space, from one live record to the next.
 module _ (ops : List Op) (space : Space) (page : ℕ) (all : all_formed ops ≡ true) where
-  no_pair : (id : RecordId) → is_empty (rights_at (state_of ops) id page) ≡ true → pair_at (state_of ops) page id ≡ None
+  no_pair : (id : RecordId) → is_empty (rights_at (state_of ops) id page) ≡ true → holder_pair (state_of ops) page id ≡ None
   no_pair id empty = by (frame_at (state_of ops) id page)
     where
       by : (frame : Option ℕ) → pair_with frame (rights_at (state_of ops) id page) ≡ None
       by None = refl
       by (Some f) = cond-true (is_empty (rights_at (state_of ops) id page)) None (Some (f, rights_at (state_of ops) id page)) empty
 
-  quiet : (x : Holder) → IsAmong x (holders (records_of ops) space) → (IsLive (state_of ops) space page x.id → ⊥) → pair_at (state_of ops) page x.id ≡ None
+  quiet : (x : Holder) → IsAmong x (holders (records_of ops) space) → (IsLive (state_of ops) space page x.id → ⊥) → holder_pair (state_of ops) page x.id ≡ None
   quiet x among dead = elim (cases_Bool (is_empty (rights_at (state_of ops) x.id page))) [
     | inl empty ↦ no_pair x.id empty
     | inr some ↦ absurd (dead (record { into = into_to ops space x all among; has_some = some }))
@@ -169,11 +169,11 @@ module _ (ops : List Op) (space : Space) (page : ℕ) (all : all_formed ops ≡ 
 
     pub live_next : (after : Option RecordId) (id : RecordId) → IsNextLive (state_of ops) space page after id
         → (a : A) → gathered a (later after (holders (records_of ops) space))
-        ≡ gathered (step a (pair_at (state_of ops) page id)) (later (Some id) (holders (records_of ops) space))
+        ≡ gathered (step a (holder_pair (state_of ops) page id)) (later (Some id) (holders (records_of ops) space))
     live_next after id next a =
         let found = into_from ops space id next.live.into in
         subst (λ (i : RecordId). gathered a (later after (holders (records_of ops) space))
-        ≡ gathered (step a (pair_at (state_of ops) page i)) (later (Some i) (holders (records_of ops) space))) found.2
+        ≡ gathered (step a (holder_pair (state_of ops) page i)) (later (Some i) (holders (records_of ops) space))) found.2
         (over_next (state_of ops) page step idle after found.0 (holders (records_of ops) space) rising_holders found.1
         (subst (λ (i : RecordId). is_after after i ≡ true) (sym found.2) next.above)
         (λ x among above before. quiet x among (λ live.

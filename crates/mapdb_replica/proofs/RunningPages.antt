@@ -20,7 +20,7 @@ use Rattle.mapdb_rights.specs.Right.{rights_at}
 use Rattle.mapdb_rights.specs.Steady.{frame_on}
 use Rattle.mapdb_replica.specs.FirstPairs.{first_from, with_later}
 use Rattle.mapdb_replica.specs.Issue.{holders}
-use Rattle.mapdb_replica.specs.Pairs.{Pair, page_rights, pair_at}
+use Rattle.mapdb_replica.specs.Pairs.{Pair, page_rights, holder_pair}
 use Rattle.mapdb_replica.specs.Running.{continues, pair_on}
 use Rattle.mapdb_replica.specs.Served.{served}
 use Rattle.mapdb_replica.specs.declared.pieces.Holder.{Holder}
@@ -44,7 +44,7 @@ pair_with-on : (count : ℕ) (frame : Option ℕ) (rights : Rights) → pair_wit
 pair_with-on count None rights = refl
 pair_with-on count (Some frame) rights = some_if count frame rights (is_empty rights)
 
-pair_at-on : (S : State) (id : RecordId) (page count : ℕ) → ShowsOn S id page count → pair_at S (page + count) id ≡ pair_on count (pair_at S page id)
+pair_at-on : (S : State) (id : RecordId) (page count : ℕ) → ShowsOn S id page count → holder_pair S (page + count) id ≡ pair_on count (holder_pair S page id)
 pair_at-on S id page count on =
     ap (pair_with (frame_at S id (page + count))) on.rights
     ∙ elim (cases_Bool (is_empty (rights_at S id page))) [
@@ -69,8 +69,8 @@ unfolding first_from
 first_from-on S page count found [] on = refl
 first_from-on S page count found (h ∷ hs) on =
     ap (λ (o : Option Pair). first_from S (page + count) o hs)
-    (ap (with_later (pair_on count found)) (pair_at-on S h.id page count (on h (inl refl))) ∙ with_later-on count found (pair_at S page h.id))
-    ∙ first_from-on S page count (with_later found (pair_at S page h.id)) hs (λ x k. on x (inr k))
+    (ap (with_later (pair_on count found)) (pair_at-on S h.id page count (on h (inl refl))) ∙ with_later-on count found (holder_pair S page h.id))
+    ∙ first_from-on S page count (with_later found (holder_pair S page h.id)) hs (λ x k. on x (inr k))
 
 pub served_on : (ops : List Op) (space : Space) (page count end : ℕ) → all_formed ops ≡ true → ShowUntil (state_of ops) space page end → page + count < end
     → served ops space (page + count) ≡ pair_on count (served ops space page)

@@ -4,13 +4,14 @@ ghost use Rattle.std.specs.Prelude.{◌≡◌, ◌≤◌, ◌<◌, ℕ};
 ghost use Rattle.mapdb_facts.specs.Facts.{state_of_facts};
 ghost use Rattle.mapdb_rights.specs.Index.{KeepsUp};
 ghost use Rattle.mapdb_rights.specs.Live.{IsLiveFrom, ShowUntil};
+ghost use Rattle.mapdb_rights.specs.Lone.{IsLonePair};
 ghost use Rattle.mapdb_rights.specs.Right.{rights_at};
-ghost use Rattle.mapdb_replica.specs.Pairs.{pair_at};
+ghost use Rattle.mapdb_replica.specs.Pairs.{holder_pair};
 
 use crate::page_rights::pair_at;
 use mapdb_facts::{Facts, RecordId, Space};
 use mapdb_fpage::{PAGE_LIMIT, Rights};
-use mapdb_rights::{RightsIndex, live_after, rights_of, show_until, steady_until};
+use mapdb_rights::{LonePair, RightsIndex, live_after, rights_of, show_until, steady_until};
 
 /// The rights of a record at a page: none where it is not held.
 pub(crate) fn held_rights(facts: &Facts, index: &RightsIndex, id: RecordId, page: u64) -> Rights
@@ -31,7 +32,7 @@ pub(crate) fn held_pair(
     page: u64,
 ) -> Option<(u64, Rights)>
     requires { KeepsUp index.now (state_of_facts facts.now) }
-    ensures { result ≡ pair_at (state_of_facts facts.now) page id }
+    ensures { result ≡ holder_pair (state_of_facts facts.now) page id }
 {
     match index.pair_at(id, page) {
         Some(pair) => pair,
@@ -39,7 +40,8 @@ pub(crate) fn held_pair(
     }
 }
 
-/// The end of pages, from one on, over which a record has equal rights. It may have them behind this end too.
+/// The end of pages, from one on, over which a record has equal rights. It may have them behind
+/// this end too.
 pub(crate) fn equal_until(facts: &Facts, index: &RightsIndex, id: RecordId, page: u64) -> u64
     requires page { page < PAGE_LIMIT }
     requires kept { KeepsUp index.now (state_of_facts facts.now) }
@@ -53,8 +55,8 @@ pub(crate) fn equal_until(facts: &Facts, index: &RightsIndex, id: RecordId, page
     }
 }
 
-/// The least record of the space above another name, or of all, that has a right at the page; in the first space the root
-/// is one of them.
+/// The least record of the space above another name, or of all, that has a right at the page; in
+/// the first space the root is one of them.
 pub(crate) fn next_live(
     facts: &Facts,
     index: &RightsIndex,
@@ -71,8 +73,20 @@ pub(crate) fn next_live(
     }
 }
 
-/// The end of pages, from one on, over which each record of the space, in the first space the root too, has equal rights,
-/// and where it has some, a frame that rises by one with each page.
+/// What the page of the space shows, where no more than one record of the space has a right there;
+/// in the first space the root is one of them.
+pub(crate) fn lone_pair(facts: &Facts, index: &RightsIndex, space: Space, page: u64) -> LonePair
+    requires { KeepsUp index.now (state_of_facts facts.now) }
+    ensures { IsLonePair (state_of_facts facts.now) space page result }
+{
+    match index.lone_pair_at(facts, space, page) {
+        Some(pair) => pair,
+        None => LonePair::Several,
+    }
+}
+
+/// The end of pages, from one on, over which each record of the space, in the first space the root
+/// too, has equal rights, and where it has some, a frame that rises by one with each page.
 pub(crate) fn shown_until(facts: &Facts, index: &RightsIndex, space: Space, page: u64) -> u64
     requires page { page < PAGE_LIMIT }
     requires kept { KeepsUp index.now (state_of_facts facts.now) }

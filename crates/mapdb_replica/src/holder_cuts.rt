@@ -44,7 +44,8 @@ fn add_child_cuts(
     Ok(())
 }
 
-/// Adds what a holder loses itself, of which this part is unmapped: nothing, unless the Unmap is a flush.
+/// Adds what a holder loses itself, of which this part is unmapped: nothing, unless the Unmap is a
+/// flush.
 fn add_own_cut(
     found: &mut Vec<Op>,
     rights: Rights,
@@ -60,7 +61,8 @@ fn add_own_cut(
     Ok(())
 }
 
-/// Adds what is lost by a holder, of which this part is unmapped: by its children, and with a flush by itself.
+/// Adds what is lost by a holder, of which this part is unmapped: by its children, and with a flush
+/// by itself.
 fn add_part_cuts(
     found: &mut Vec<Op>,
     facts: &Facts,
@@ -114,7 +116,8 @@ fn add_first_cuts(
     requires kept { KeepsUp index.now (state_of_facts facts.now) }
     requires there { index.now.absent ≡ false }
     ensures { OnOk result (found.new.items ≡ found.old.items
-        ++ flat_map (holder_cuts (records_of_facts facts.now) page.now rights flush) (first_holders space)) }
+        ++ flat_map (holder_cuts (records_of_facts facts.now) page.now rights flush)
+        (first_holders space)) }
 {
     match first_holder(space) {
         Some(holder) => add_holder_cuts(found, facts, index, page, rights, flush, &holder),
@@ -135,7 +138,8 @@ fn add_record_cuts(
     requires kept { KeepsUp index.now (state_of_facts facts.now) }
     requires there { index.now.absent ≡ false }
     ensures { OnOk result (found.new.items ≡ found.old.items
-        ++ flat_map (holder_cuts (records_of_facts facts.now) page.now rights flush) (map holder_of held.now)) }
+        ++ flat_map (holder_cuts (records_of_facts facts.now) page.now rights flush)
+        (map holder_of held.now)) }
 {
     for mapping in held {
         let holder = Holder {
@@ -147,8 +151,9 @@ fn add_record_cuts(
     Ok(())
 }
 
-/// The revocations that an Unmap may issue, in their order. The index tells which records of the space share pages with the
-/// fpage, and which children take pages from the part of a holder. None where it is absent.
+/// The revocations that an Unmap may issue, in their order. The index tells which records of the
+/// space share pages with the fpage, and which children take pages from the part of a holder. None
+/// where it is absent.
 pub(crate) fn cuts_by_holder(
     alloc: Global,
     facts: &Facts,
@@ -160,7 +165,8 @@ pub(crate) fn cuts_by_holder(
 ) -> Result<Option<Vec<Op>>, AllocError>
     requires { KeepsUp index.now (state_of_facts facts.now) }
     ensures { IfOk result (λ found. IfSome found (λ cuts. cuts.items
-        ≡ flat_map (holder_cuts (records_of_facts facts.now) page.now rights flush) (holders (records_of_facts facts.now) space))) }
+        ≡ flat_map (holder_cuts (records_of_facts facts.now) page.now rights flush)
+        (holders (records_of_facts facts.now) space))) }
 {
     let Some(held) = index.holders(facts, space, page)? else {
         return Ok(None);

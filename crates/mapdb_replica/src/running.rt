@@ -37,13 +37,15 @@ impl Replica {
         ensures above { page < result }
         ensures limit { result ≤ PAGE_LIMIT }
         ensures same { (count : ℕ) → page + count < result
-            → served self.now.ops space (page + count) ≡ pair_on count (served self.now.ops space page) }
+            → served self.now.ops space (page + count)
+            ≡ pair_on count (served self.now.ops space page) }
     {
         shown_until(&self.facts, &self.index, space, page)
     }
 
-    /// One past the last page up to which what a page of a space is served from goes on from this page: none at all of
-    /// them, or frames that rise by one with each page, with equal rights. It takes no memory.
+    /// One past the last page up to which what a page of a space is served from goes on from this
+    /// page: none at all of them, or frames that rise by one with each page, with equal rights. It
+    /// takes no memory.
     pub fn run_end(&self, space: Space, page: u64) -> u64
         requires { page < PAGE_LIMIT }
         ensures { IsRunEnd (served self.now.ops space) page result }

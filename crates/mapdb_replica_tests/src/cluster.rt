@@ -94,7 +94,8 @@ fn expect_rights(
     Ok(())
 }
 
-/// Two processors, of which the first makes two maps, takes one right back, ends a space, and sends each operation.
+/// Two processors, of which the first makes two maps, takes one right back, ends a space, and sends
+/// each operation.
 fn four_messages(rt: &impl Abort, alloc: Global) -> Result<Cluster, Fail> {
     let mut cluster = Cluster::new(alloc, 2)?;
     let events = [

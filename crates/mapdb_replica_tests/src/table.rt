@@ -1,5 +1,5 @@
-//! What outside examples say of tables. Both builds are asked, and events are made before copies: tests are short, since a
-//! test with many borrows is long to prove.
+//! What outside examples say of tables. Both builds are asked, and events are made before copies:
+//! tests are short, since a test with many borrows is long to prove.
 
 use mapdb_facts::Space;
 use mapdb_fpage::{Fpage, MapItem, Rights};
@@ -36,7 +36,8 @@ fn row(number: u16, page: u64, count: u64, frame: u64) -> TableRow {
     }
 }
 
-/// Maps a place of one space into a window of another, with all rights, and asserts that it was done.
+/// Maps a place of one space into a window of another, with all rights, and asserts that it was
+/// done.
 fn map(
     rt: &impl Abort,
     copy: &mut Replica,

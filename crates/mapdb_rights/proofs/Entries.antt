@@ -1,17 +1,17 @@
 -- How many entries come behind one, and the entries of a record.
-use Rattle.std.proofs.Common.{◌≡◌, ◌<◌, ◌≤◌, Bool, true, false, cond, List, [], ◌∷◌, length, refl, sym, ap, subst, ◌∙◌, arith, inl, inr}
+use Rattle.std.proofs.Common.{◌≡◌, ◌<◌, ◌≤◌, Bool, true, false, List, [], ◌∷◌, length, refl, sym, ap, ◌∙◌, arith, inl, inr}
 use Rattle.std.specs.Prelude.{◌||◌, filter, Option, Some, None, if◌then◌else◌}
 use Rattle.std.specs.BTreeMap.{is_at}
-use Rattle.std.specs.BTreeSet.{BTreeSet, btree_set_len, contains}
 use Rattle.std.specs.List.{count_by, list_any}
 use Rattle.std.specs.Ordering.{is_lt}
-use Rattle.std.specs.declared.cmp.Ordering.{Ordering}
-use Rattle.std.proofs.lemmas.Bool.{cases_Bool, false≢true}
+use Rattle.std.proofs.lemmas.Bool.{cases_Bool, false≢true, true≢false}
 use Rattle.std.proofs.lemmas.Cmp.{tied_itself}
 use Rattle.std.proofs.lemmas.List.Sums.{length-filter}
 use Rattle.mapdb_rights.specs.declared.index.places.Listed.{Listed}
-use Rattle.mapdb_rights.specs.Listing.{AllAligned, is_above, left_above, listed_cmp}
-use Rattle.mapdb_rights.proofs.ListedOrder.{derived_cmp, derived_is, exact_listed, less_from, listed_total}
+use Rattle.mapdb_rights.specs.Listing.{AllAligned, all_listed, is_above, is_listed, left_above, listed_cmp, listed_len}
+use Rattle.mapdb_rights.proofs.ListedOrder.{exact_listed, less_from, listed_total}
+use Rattle.mapdb_rights.specs.declared.index.places.Places.{Places}
+use Rattle.mapdb_rights.proofs.OwnersPlaces.{among_all}
 
 -- a narrower test passes no more, and fewer where one is left out
 module _ {X : Type 0} (p q : X → Bool) (narrower : (x : X) → p x ≡ true → q x ≡ true) where
@@ -51,8 +51,8 @@ module _ {X : Type 0} (p q : X → Bool) (narrower : (x : X) → p x ≡ true �
   counts_fewer t out xs h = let a = length-filter p xs in let b = length-filter q xs in let less = fewer t out xs h in omega arith
 
 -- behind an entry there are fewer than where it was found
-pub fewer_above : (set : BTreeSet Listed) (after : Option Listed) (e : Listed) → contains listed_cmp set e ≡ true → is_above after e ≡ true → left_above set (Some e) < left_above set after
-fewer_above set after e has above = counts_fewer (is_above (Some e)) (is_above after) (chain after above) (is_at (listed_cmp e)) (λ x at. here x (exact_listed e x at)) set.keys has
+pub fewer_above : (set : Places) (after : Option Listed) (e : Listed) → is_listed set e ≡ true → is_above after e ≡ true → left_above set (Some e) < left_above set after
+fewer_above set after e has above = counts_fewer (is_above (Some e)) (is_above after) (chain after above) (is_at (listed_cmp e)) (λ x at. here x (exact_listed e x at)) (all_listed set) (among_all set.own.entries e has)
   where
     chain : (after : Option Listed) → is_above after e ≡ true → (x : Listed) → is_above (Some e) x ≡ true → is_above after x ≡ true
     chain None _ x later = refl
@@ -62,18 +62,13 @@ fewer_above set after e has above = counts_fewer (is_above (Some e)) (is_above a
     here x same = (ap (λ (y : Listed). is_lt (listed_cmp e y)) (sym same) ∙ ap is_lt (tied_itself listed_total e), ap (is_above after) (sym same) ∙ above)
 
 -- before all entries none is left out
-pub all_above : (set : BTreeSet Listed) → left_above set None ≡ btree_set_len set
-all_above set = sym (length-filter (is_above None) set.keys) ∙ ap length (all set.keys)
+pub all_above : (set : Places) → left_above set None ≡ listed_len set
+all_above set = sym (length-filter (is_above None) (all_listed set)) ∙ ap length (all (all_listed set))
   where
     all : (xs : List Listed) → filter (is_above None) xs ≡ xs
     all [] = refl
     all (x ∷ xs) = ap (λ (rest : List Listed). x ∷ rest) (all xs)
 
--- what is there after one entry was put among others, in the written order
-pub put_in : (old new : BTreeSet Listed) (k : Listed) → ((e : Listed) → contains derived_cmp new e ≡ cond (is_at (derived_cmp k) e) true (contains derived_cmp old e))
-    → (e : Listed) → contains listed_cmp new e ≡ cond (is_at (listed_cmp k) e) true (contains listed_cmp old e)
-put_in old new k put = subst (λ (R : Listed → Listed → Ordering). (e : Listed) → contains R new e ≡ cond (is_at (R k) e) true (contains R old e)) derived_is put
-
 -- where nothing is listed, all is aligned
-pub none_aligned : (set : BTreeSet Listed) → set.keys ≡ [] → AllAligned set
-none_aligned set none e has = absurd (false≢true (sym (ap (list_any (is_at (listed_cmp e))) none) ∙ has))
+pub none_aligned : (set : Places) → ((e : Listed) → is_listed set e ≡ false) → AllAligned set
+none_aligned set none e has = absurd (true≢false (sym has ∙ none e))

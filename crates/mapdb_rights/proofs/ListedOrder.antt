@@ -1,5 +1,5 @@
 -- How entries are ordered: those of one owner by order, first page and name.
-use Rattle.std.proofs.Common.{◌≡◌, ℕ, ◌<◌, ◌≤◌, true, false, refl, sym, ap, subst, ◌∙◌, arith, inl, inr}
+use Rattle.std.proofs.Common.{◌≡◌, ℕ, Bool, ◌<◌, ◌≤◌, true, false, refl, sym, ap, subst, ◌∙◌, arith, inl, inr}
 use Rattle.std.specs.Prelude.{◌⊎◌, ◌&&◌, nat_eq}
 use Rattle.std.specs.BTreeMap.{is_at}
 use Rattle.std.specs.Cmp.{IsTotalOrder, nat_cmp_is, tied_then}
@@ -16,23 +16,7 @@ use Rattle.mapdb_facts.specs.declared.names.RecordId.{RecordId}
 use Rattle.mapdb_rights.specs.declared.index.places.Listed.{Listed}
 use Rattle.mapdb_rights.specs.declared.index.places.Owner.{Owner}
 use Rattle.mapdb_rights.specs.declared.index.places.Owner.TheVariants.{Record, Space}
-use Rattle.mapdb_rights.specs.contracts.index.places.ListedOrd.TheImpl as listed_ord
-use Rattle.mapdb_rights.specs.contracts.index.places.OwnerOrd.TheImpl as owner_ord
 use Rattle.mapdb_rights.specs.Listing.{listed_cmp, owner_cmp, same_owner}
-
--- ---- the order that is derived is the one that is written
-
-abbrev pub derived_cmp : Listed → Listed → Ordering
-derived_cmp = (listed_ord.ghosts).cmp
-
-owner_derived : (x y : Owner) → (owner_ord.ghosts).cmp x y ≡ owner_cmp x y
-owner_derived (Record a) (Record b) = refl
-owner_derived (Record a) (Space b) = refl
-owner_derived (Space a) (Record b) = refl
-owner_derived (Space a) (Space b) = refl
-
-pub derived_is : derived_cmp ≡ listed_cmp
-derived_is = λ i. λ a b. ordering_then (owner_derived a.owner b.owner i) (ordering_then (nat_cmp a.order b.order) (ordering_then (nat_cmp a.first b.first) (id_cmp a.id b.id)))
 
 -- ---- it is total, and what compares equal is the same
 
@@ -104,6 +88,9 @@ listed_at a b =
         ≡ (nat_eq a.order b.order && (nat_eq a.first b.first && same_id a.id b.id))
     later = sym (tied_then (nat_cmp a.order b.order) (ordering_then (nat_cmp a.first b.first) (id_cmp a.id b.id))) ∙ (λ i. nat_at a.order b.order i && last i)
 
+pub listed_apart : (a b : Listed) → same_owner a.owner b.owner ≡ false → is_at (listed_cmp a) b ≡ false
+listed_apart a b other = listed_at a b ∙ ap (λ (t : Bool). t && (nat_eq a.order b.order && (nat_eq a.first b.first && same_id a.id b.id))) other
+
 pub exact_listed : (a b : Listed) → is_at (listed_cmp a) b ≡ true → a ≡ b
 exact_listed a b h =
     let p = and_parts (same_owner a.owner b.owner) _ (sym (listed_at a b) ∙ h) in
@@ -120,14 +107,14 @@ listed_itself a = ap is_eq (tied_itself listed_total a)
 
 -- ---- owners between two of one owner
 
-tied : (o p : Ordering) → o ≡ ordering_reverse p → is_gt o ≡ false → is_gt p ≡ false → is_eq o ≡ true
+pub tied : (o p : Ordering) → o ≡ ordering_reverse p → is_gt o ≡ false → is_gt p ≡ false → is_eq o ≡ true
 tied Equal p e h k = refl
 tied Greater p e h k = absurd (true≢false h)
 tied Less Greater e h k = absurd (true≢false k)
 tied Less Equal e h k = absurd (true≢false (ap is_lt e))
 tied Less Less e h k = absurd (true≢false (ap is_lt e))
 
-first_le : (a b : Ordering) → is_gt (ordering_then a b) ≡ false → is_gt a ≡ false
+pub first_le : (a b : Ordering) → is_gt (ordering_then a b) ≡ false → is_gt a ≡ false
 first_le Less b h = refl
 first_le Equal b h = refl
 first_le Greater b h = h
@@ -155,7 +142,7 @@ pub from_above : (a b : ℕ) → b < a → nat_cmp a b ≡ Greater
 from_above a b h = sym (nat_cmp_is a b Greater h)
 
 -- what comes no later has no greater order, and at the same order begins no later
-up_to : (order k_order first k_first : ℕ) (o : Ordering) → is_gt (ordering_then (nat_cmp order k_order) (ordering_then (nat_cmp first k_first) o)) ≡ false
+pub up_to : (order k_order first k_first : ℕ) (o : Ordering) → is_gt (ordering_then (nat_cmp order k_order) (ordering_then (nat_cmp first k_first) o)) ≡ false
     → (order < k_order) ⊎ ((order ≡ k_order) × (first ≤ k_first))
 up_to order k_order first k_first o h =
     elim (three_ways order k_order) [
@@ -183,10 +170,6 @@ lt_parts a b same (inr both) =
     ∙ ap (λ x. ordering_then x (ordering_then (nat_cmp a.first b.first) (id_cmp a.id b.id))) (from_equal a.order b.order both.0)
     ∙ ap (λ x. ordering_then x (id_cmp a.id b.id)) (from_below a.first b.first both.1)
 
--- where those of an owner begin, from an order and a first page on
-abbrev pub start : Owner → ℕ → ℕ → Listed
-start owner order first = record { owner = owner; order = order; first = first; id = root }
-
 pub root_first : (id : RecordId) → is_gt (id_cmp root id) ≡ false
 root_first id =
     elim (three_ways 0 id.number) [
@@ -201,25 +184,6 @@ root_first id =
     none_below n (inl less) = ap is_gt (from_below 0 n less)
     none_below n (inr (inl same)) = ap is_gt (from_equal 0 n same)
     none_below n (inr (inr above)) = absurd (omega arith)
-
-less_le : (o : Ordering) → o ≡ Less → is_gt o ≡ false
-less_le o e = ap is_gt e
-
-pub start_le : (owner : Owner) (order first : ℕ) (k : Listed) → owner ≡ k.owner → (order < k.order) ⊎ ((order ≡ k.order) × (first ≤ k.first))
-    → is_gt (listed_cmp (start owner order first) k) ≡ false
-start_le owner order first k same (inl less) = less_le (listed_cmp (start owner order first) k) (lt_parts (start owner order first) k same (inl less))
-start_le owner order first k same (inr both) =
-    elim (three_ways first k.first) [
-      | inl less ↦ less_le (listed_cmp (start owner order first) k) (lt_parts (start owner order first) k same (inr (both.0, less)))
-      | inr more ↦ elim more [
-        | inl alike ↦
-            ap is_gt (same_then (start owner order first) k same)
-            ∙ ap (λ x. is_gt (ordering_then x (ordering_then (nat_cmp first k.first) (id_cmp root k.id)))) (from_equal order k.order both.0)
-            ∙ ap (λ x. is_gt (ordering_then x (id_cmp root k.id))) (from_equal first k.first alike)
-            ∙ root_first k.id
-        | inr above ↦ absurd (omega arith)
-      ]
-    ]
 
 -- of two entries that differ the one that comes no later comes first
 pub same_or_above : (a b : Listed) → is_gt (listed_cmp a b) ≡ false → (a ≡ b) ⊎ (listed_cmp a b ≡ Less)

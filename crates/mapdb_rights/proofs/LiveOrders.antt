@@ -1,7 +1,6 @@
 -- One order after the other is looked at: of each one place holds the page.
 use Rattle.std.proofs.Common.{◌≡◌, ℕ, ◌+◌, ◌-◌, ◌/◌, ◌%◌, ◌<◌, ◌≤◌, Bool, true, false, refl, sym, ap, subst, ◌∙◌, arith, inl, inr, mul-le-mul_right}
 use Rattle.std.specs.Prelude.{◌⊎◌, Option, None, Some, IfSome, min, max, not}
-use Rattle.std.specs.BTreeSet.{BTreeSet, contains}
 use Rattle.std.specs.Ordering.{is_gt, is_lt}
 use Rattle.std.proofs.lemmas.Bool.{and_from, and_parts, cases_Bool, cond-false, false≢true, lt-ltb, true≢false}
 use Rattle.mapdb_fpage.proofs.Meets.{holds_range}
@@ -19,7 +18,7 @@ use Rattle.mapdb_facts.specs.declared.names.Space.{Space}
 use Rattle.mapdb_facts.specs.declared.operations.Record.{Record}
 use Rattle.mapdb_rights.specs.Among.{IsLeastOf, IsLiveRoot, IsShown, IsShownAt, lesser, under}
 use Rattle.mapdb_rights.specs.Following.{AreListed}
-use Rattle.mapdb_rights.specs.Listing.{IsAligned, IsLeastMeeting, IsNextMeeting, is_above, listed_cmp, meets, pages_of, place_of}
+use Rattle.mapdb_rights.specs.Listing.{IsAligned, IsLeastMeeting, IsNextMeeting, is_above, is_listed, listed_cmp, meets, own_place, pages_of, place_of}
 use Rattle.mapdb_rights.specs.Live.{IsLive, IsLiveFrom}
 use Rattle.mapdb_rights.specs.PageRights.{is_record_into}
 use Rattle.mapdb_rights.specs.Right.{rights_at}
@@ -30,6 +29,7 @@ use Rattle.mapdb_rights.proofs.LeastNames.{least_of_both}
 use Rattle.mapdb_rights.proofs.ListedOrder.{le_parts, less_from, lt_parts}
 use Rattle.mapdb_rights.proofs.LiveRecords.{into_held, no_root}
 use Rattle.mapdb_rights.proofs.Meetings.{aligned_start, either_way, meets_below, same_pages, some_pages}
+use Rattle.mapdb_rights.specs.declared.index.places.Places.{Places}
 
 -- ---- of one order one place holds a page
 
@@ -50,13 +50,13 @@ one_start n a b page some at bt a_low a_high b_low b_high =
 
 same_first : (a b : Listed) (page end : ℕ) → IsAligned a → IsAligned b → a.order ≡ b.order → end ≤ page + 1 → meets a page end ≡ true → meets b page end ≡ true → a.first ≡ b.first
 same_first a b page end at bt order one a_meets b_meets =
-    let pages : pages_of b ≡ pages_of a = sym (same_pages a b order) in
-    let in_a = meets_below a page end a_meets in
-    let in_b = meets_below b page end b_meets in
+    let pages : pages_of b ≡ pages_of a = sym (same_pages (own_place a) (own_place b) order) in
+    let in_a = meets_below (own_place a) page end a_meets in
+    let in_b = meets_below (own_place b) page end b_meets in
     let a_before = in_a.0 in
     let b_before = in_b.0 in
     let b_high : page < b.first + pages_of a = subst (λ n. page < b.first + n) pages in_b.1 in
-    one_start (pages_of a) a.first b.first page (some_pages a) at.aligned (subst (λ n. b.first % n ≡ 0) pages bt.aligned) (omega arith) in_a.1 (omega arith) b_high
+    one_start (pages_of a) a.first b.first page (some_pages (own_place a)) at.aligned (subst (λ n. b.first % n ≡ 0) pages bt.aligned) (omega arith) in_a.1 (omega arith) b_high
 
 -- a place that holds the page meets it
 place_meets_page : (r : Record) (page end : ℕ) → holds r.place page ≡ true → page < end → meets (place_of r) page end ≡ true
@@ -77,7 +77,7 @@ abbrev pub orders_behind : Option Listed → ℕ
 orders_behind None = 50
 orders_behind (Some e) = 49 - e.order
 
-module _ (S : State) (set : BTreeSet Listed) (space : Space) (page : ℕ) where
+module _ (S : State) (set : Places) (space : Space) (page : ℕ) where
   -- the record's place was passed
   abbrev pub HasPassed : Option Listed → RecordId → Type 0
   HasPassed passed id = (r : Record) × (S.record_at id ≡ Some r) × (is_above passed (place_of r) ≡ false)
@@ -118,7 +118,7 @@ module _ (S : State) (set : BTreeSet Listed) (space : Space) (page : ℕ) where
     not_root id r at = subst (λ (i : RecordId). is_root i ≡ false) (named id r at) (no_root r (formed r (held_own id r at)))
 
     -- what is shown has a right at the page of the space
-    shown_live : (id : RecordId) → IsShown S space page id → IsLive S space page id
+    pub shown_live : (id : RecordId) → IsShown S space page id → IsLive S space page id
     shown_live id shown =
         let parts = and_parts (is_record_into (S.record_at id) space) (not (is_empty (rights_at S id page))) shown in
         by (S.record_at id) refl parts.0 parts.1
@@ -139,11 +139,11 @@ module _ (S : State) (set : BTreeSet Listed) (space : Space) (page : ℕ) where
       pub r : Record
       pub at : S.record_at id ≡ Some r
       pub into : is_record_into (S.record_at id) space ≡ true
-      pub has : contains listed_cmp set (place_of r) ≡ true
+      pub has : is_listed set (place_of r) ≡ true
       pub owned : (place_of r).owner ≡ owners.Space space
       pub meeting : meets (place_of r) page end ≡ true
 
-    standing : (id : RecordId) (end : ℕ) → is_root id ≡ false → (page < page_limit → page < end) → IsLive S space page id → Standing id end
+    pub standing : (id : RecordId) (end : ℕ) → is_root id ≡ false → (page < page_limit → page < end) → IsLive S space page id → Standing id end
     standing id end other more live =
         let held = into_held S space id other live.into in
         let there = listed.places held.0 (held_own id held.0 held.1) in
@@ -169,8 +169,8 @@ module _ (S : State) (set : BTreeSet Listed) (space : Space) (page : ℕ) where
         | inr behind ↦ of_record behind
       ]
         where
-          at_entry : (k : Listed) → k.id ≡ id → contains listed_cmp set k ≡ true → k.owner ≡ owners.Space space → meets k page end ≡ true → is_above passed k ≡ true
-              → is_above (Some (order_end e)) k ≡ false → contains listed_cmp set (under e id) ≡ true
+          at_entry : (k : Listed) → k.id ≡ id → is_listed set k ≡ true → k.owner ≡ owners.Space space → meets k page end ≡ true → is_above passed k ≡ true
+              → is_above (Some (order_end e)) k ≡ false → is_listed set (under e id) ≡ true
           at_entry k name has own meeting above not_above =
               elim (le_parts e k (next.owned ∙ sym own) (next.least k has own above meeting)) [
                 | inl less ↦ absurd (true≢false (sym (ap is_lt (lt_parts (order_end e) k (next.owned ∙ sym own) (inl less))) ∙ not_above))
@@ -179,7 +179,7 @@ module _ (S : State) (set : BTreeSet Listed) (space : Space) (page : ℕ) where
                     let owner : k.owner ≡ e.owner = own ∙ sym next.owned in
                     let order = sym both.0 in
                     let is : k ≡ under e id = λ i. record { owner = owner i; order = order i; first = sym first i; id = name i } in
-                    subst (λ (x : Listed). contains listed_cmp set x ≡ true) is has
+                    subst (λ (x : Listed). is_listed set x ≡ true) is has
               ]
 
           of_record : HasPassed (Some (order_end e)) id → Came passed id ⊎ IsShownAt set S space page e id

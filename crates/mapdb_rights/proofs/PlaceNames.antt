@@ -2,7 +2,6 @@
 use Rattle.std.proofs.Common.{◌≡◌, ℕ, ◌<◌, ◌≤◌, true, false, refl, sym, ap, subst, ◌∙◌, arith, inl, inr}
 use Rattle.std.specs.Prelude.{◌⊎◌, Option, None, Some}
 use Rattle.std.specs.BTreeMap.Range.{IsFromStart}
-use Rattle.std.specs.BTreeSet.{BTreeSet, contains}
 use Rattle.std.specs.Ordering.{is_gt, is_lt, nat_cmp, ordering_reverse, ordering_then}
 use Rattle.std.specs.declared.cmp.Ordering.TheVariants.{Greater, Less}
 use Rattle.std.proofs.lemmas.Bool.{cases_Bool, false≢true, true≢false}
@@ -13,9 +12,10 @@ use Rattle.mapdb_facts.specs.Kept.{id_cmp}
 use Rattle.mapdb_facts.specs.Names.{is_after, is_before, root}
 use Rattle.mapdb_facts.specs.declared.names.RecordId.{RecordId}
 use Rattle.mapdb_rights.specs.Among.{IsLeastName, StandsAt, behind_name, under}
-use Rattle.mapdb_rights.specs.Listing.{IsFirst, is_above, listed_cmp}
+use Rattle.mapdb_rights.specs.Listing.{IsFirst, IsFirstInside, is_above, is_listed, listed_cmp}
 use Rattle.mapdb_rights.specs.declared.index.places.Listed.{Listed}
 use Rattle.mapdb_rights.proofs.ListedOrder.{from_above, from_equal, id_total, le_parts, root_first, same_then, three_ways}
+use Rattle.mapdb_rights.specs.declared.index.places.Places.{Places}
 
 -- ---- names
 
@@ -90,14 +90,23 @@ module _ (place : Listed) where
   after_inside None id h = refl
   after_inside (Some a) id h = before_of a id (sym (under_cmp place a id) ∙ h)
 
-  module _ (set : BTreeSet Listed) (after : Option RecordId) (e : Listed) (h : IsFirst set place.owner (behind_name place after) e) where
+  -- where none comes none has a later name
+  pub none_there : (set : Places) (after : Option RecordId) → IsFirstInside set place.owner (behind_name place after) None → (id : RecordId) → StandsAt set place id
+      → is_after after id ≡ false
+  none_there set after none id has =
+      elim (cases_Bool (is_after after id)) [
+        | inl above ↦ absurd (none (under place id) has refl (inside_from after id above))
+        | inr other ↦ other
+      ]
+
+  module _ (set : Places) (after : Option RecordId) (e : Listed) (h : IsFirst set place.owner (behind_name place after) e) where
     -- what stands at the place has the least name there
     pub name_found : e.order ≡ place.order → e.first ≡ place.first → IsLeastName (StandsAt set place) (StandsAt set place) after e.id
     name_found order first =
         let owner = h.owned in
         let is : e ≡ under place e.id = λ i. record { owner = owner i; order = order i; first = first i; id = e.id } in
         record {
-          sound = subst (λ (k : Listed). contains listed_cmp set k ≡ true) is h.held;
+          sound = subst (λ (k : Listed). is_listed set k ≡ true) is h.held;
           above = after_inside after e.id (subst (λ (k : Listed). IsFromStart listed_cmp (behind_name place after) k) is h.inside);
           least = λ other has above.
               let le : is_gt (listed_cmp (under place e.id) (under place other)) ≡ false =

@@ -2,7 +2,6 @@
 use Rattle.std.proofs.Common.{◌≡◌, ℕ, ◌+◌, ◌-◌, ◌<◌, Bool, true, false, List, refl, ap, ◌∙◌, arith}
 use Rattle.std.specs.Prelude.{None, Some, filter, is_some, max, min, nat_le, nat_lt, if◌then◌else◌}
 use Rattle.std.specs.BTreeMap.{is_at}
-use Rattle.std.specs.BTreeSet.{BTreeSet, contains}
 use Rattle.std.specs.List.{filter_map, list_any}
 use Rattle.std.specs.List.Sorted.{IsStrictlySortedBy}
 use Rattle.std.proofs.lemmas.Bool.{and_parts, false≢true, lt-ltb}
@@ -21,12 +20,13 @@ use Rattle.mapdb_facts.specs.declared.holding.Facts.{Facts}
 use Rattle.mapdb_facts.specs.declared.names.RecordId.{RecordId}
 use Rattle.mapdb_facts.specs.declared.operations.Record as operations
 use Rattle.mapdb_rights.specs.Following.{AreListed}
-use Rattle.mapdb_rights.specs.Listing.{listed_cmp, meets, place_of, source_of}
+use Rattle.mapdb_rights.specs.Listing.{is_listed, meets, place_of, source_of}
 use Rattle.mapdb_rights.specs.Meeting.{record_if, shares_part, source_place}
 use Rattle.mapdb_rights.specs.declared.index.places.Listed.{Listed}
 use Rattle.mapdb_rights.specs.declared.index.places.Owner.{Owner}
 use Rattle.mapdb_rights.specs.declared.index.places.Owner.TheVariants.{Record, Space}
 use Rattle.mapdb_rights.proofs.NamedRecords.{among_keys, ascending_keys, looked_is_filtered}
+use Rattle.mapdb_rights.specs.declared.index.places.Places.{Places}
 
 -- places that share pages meet
 meet_meets : (a b : Place) → is_some (meet a b) ≡ true → nat_lt (max a.first_page b.first_page) (min (a.first_page + page_total a) (b.first_page + page_total b)) ≡ true
@@ -64,8 +64,8 @@ meet_meets a b h = by_size (nat_le a.order b.order) h
     by_size false k = in_a (holds a b.first_page) refl k
 
 -- what is true of the name of each entry that meets the pages of the place is true of the records that share pages with it
-pub each_sharing : (set : BTreeSet Listed) (S : State) (P : RecordId → Type 0) (part : Place) → AreListed S set → (owner : Owner)
-    → ((e : Listed) → contains listed_cmp set e ≡ true → e.owner ≡ owner → meets e part.first_page (part.first_page + page_total part) ≡ true → P e.id)
+pub each_sharing : (set : Places) (S : State) (P : RecordId → Type 0) (part : Place) → AreListed S set → (owner : Owner)
+    → ((e : Listed) → is_listed set e ≡ true → e.owner ≡ owner → meets e part.first_page (part.first_page + page_total part) ≡ true → P e.id)
     → (r : operations.Record) → Holds S r → shares_part owner part r ≡ true → P r.id
 each_sharing set S P part there (Space space) each r held shares =
     let parts = and_parts (same_space r.space space) (is_some (meet r.place part)) shares in
@@ -75,9 +75,9 @@ each_sharing set S P part there (Record parent) each r held shares =
     each (source_of r) (there.places r held).by_parent (ap Record (same_id_true r.parent parent parts.0)) (meet_meets (source_place r) part parts.1)
 
 -- what the names of the entries that meet the pages find, as far as it shares pages with the place, is all that does
-pub sharing_is_all : (facts : Facts) (set : BTreeSet Listed) (owner : Owner) (part : Place) (names : List RecordId) (first end : ℕ)
+pub sharing_is_all : (facts : Facts) (set : Places) (owner : Owner) (part : Place) (names : List RecordId) (first end : ℕ)
     → IsNamed (state_of_facts facts) → AreListed (state_of_facts facts) set → first ≡ part.first_page → end ≡ part.first_page + page_total part → IsStrictlySortedBy id_cmp names
-    → ((e : Listed) → contains listed_cmp set e ≡ true → e.owner ≡ owner → meets e first end ≡ true → list_any (is_at (id_cmp e.id)) names ≡ true)
+    → ((e : Listed) → is_listed set e ≡ true → e.owner ≡ owner → meets e first end ≡ true → list_any (is_at (id_cmp e.id)) names ≡ true)
     → filter_map (λ id. record_if (shares_part owner part) ((state_of_facts facts).record_at id)) names ≡ filter (shares_part owner part) (records_of_facts facts)
 sharing_is_all facts set owner part names first end named there first_is end_is rising each =
     looked_is_filtered facts (shares_part owner part) names named (ascending_keys names rising)

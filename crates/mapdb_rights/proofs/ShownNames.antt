@@ -1,7 +1,6 @@
 -- One name of a place after the other is looked at: those that are left out have no right at the page.
 use Rattle.std.proofs.Common.{◌≡◌, ℕ, true, false, sym, ap, ◌∙◌, inl, inr}
 use Rattle.std.specs.Prelude.{Option, None, Some}
-use Rattle.std.specs.BTreeSet.{BTreeSet}
 use Rattle.std.proofs.lemmas.Bool.{cases_Bool, false≢true, true≢false}
 use Rattle.mapdb_facts.proofs.Ascending.{before_else}
 use Rattle.mapdb_facts.proofs.SameNames.{same_id_true}
@@ -12,8 +11,9 @@ use Rattle.mapdb_facts.specs.declared.names.Space.{Space}
 use Rattle.mapdb_rights.specs.Among.{IsLeastName, IsLeastOf, IsShown, IsShownAt, StandsAt, is_shown}
 use Rattle.mapdb_rights.specs.declared.index.places.Listed.{Listed}
 use Rattle.mapdb_rights.proofs.LiveRecords.{after_both}
+use Rattle.mapdb_rights.specs.declared.index.places.Places.{Places}
 
-module _ (set : BTreeSet Listed) (S : State) (space : Space) (page : ℕ) (place : Listed) (after : Option RecordId) where
+module _ (set : Places) (S : State) (space : Space) (page : ℕ) (place : Listed) (after : Option RecordId) where
   -- those that are sought come behind the name
   pub record Further (from : Option RecordId) : Type 0 where
     pub further : (id : RecordId) → IsShownAt set S space page place id → is_after after id ≡ true → is_after from id ≡ true

@@ -1,7 +1,6 @@
 -- One entry after the other: how far all records of a space go on.
 use Rattle.std.proofs.Common.{◌≡◌, ℕ, ◌+◌, ◌<◌, ◌≤◌, true, false, sym, ap, subst, ◌∙◌, arith, inl, inr}
 use Rattle.std.specs.Prelude.{Option, None, Some, max, min}
-use Rattle.std.specs.BTreeSet.{BTreeSet, contains}
 use Rattle.std.specs.Ordering.{is_lt}
 use Rattle.std.proofs.lemmas.Bool.{cases_Bool, cond-true, lt-ltb, ltb-true, true≢false}
 use Rattle.mapdb_fpage.proofs.Meets.{holds_range}
@@ -17,7 +16,7 @@ use Rattle.mapdb_facts.specs.declared.names.Space.{Space}
 use Rattle.mapdb_facts.specs.declared.operations.Record.{Record}
 use Rattle.mapdb_rights.specs.Caching.{AreRights, Cached}
 use Rattle.mapdb_rights.specs.Following.{AreListed}
-use Rattle.mapdb_rights.specs.Listing.{IsLeastMeeting, IsListed, IsNextMeeting, is_above, listed_cmp, meets, pages_of, place_of}
+use Rattle.mapdb_rights.specs.Listing.{IsLeastMeeting, IsListed, IsNextMeeting, is_above, is_listed, meets, pages_of, place_of}
 use Rattle.mapdb_rights.specs.Live.{ShowUntil, ShowsOn}
 use Rattle.mapdb_rights.specs.PageRights.{is_record_into}
 use Rattle.mapdb_rights.specs.Right.{rights_at}
@@ -27,6 +26,7 @@ use Rattle.mapdb_rights.proofs.FramesOn.{shows_on}
 use Rattle.mapdb_rights.proofs.ListedOrder.{same_or_above}
 use Rattle.mapdb_rights.proofs.LiveRecords.{into_held}
 use Rattle.mapdb_rights.proofs.Walk.{rights_at-outside}
+use Rattle.mapdb_rights.specs.declared.index.places.Places.{Places}
 
 -- what meets fewer pages meets more
 meets_more : (k : Listed) (page least end : ℕ) → least ≤ end → meets k page least ≡ true → meets k page end ≡ true
@@ -48,14 +48,14 @@ begins_there e page behind h =
     let less : max e.first page < min (e.first + pages_of e) e.first = ltb-true (max e.first page) (min (e.first + pages_of e) e.first) h in
     omega arith
 
-module _ (set : BTreeSet Listed) (space : Space) (cached : Cached) (page : ℕ) where
+module _ (set : Places) (space : Space) (cached : Cached) (page : ℕ) where
   -- what is cached of a name stays up to the end
   abbrev pub Stays : RecordId → ℕ → Type 0
   Stays id end = (q : ℕ) → page ≤ q → q < end → cached id q ≡ cached id page
 
   -- of those that were passed and meet the pages what is cached stays
   abbrev pub Passed : Option Listed → ℕ → Type 0
-  Passed passed end = (k : Listed) → contains listed_cmp set k ≡ true → k.owner ≡ owners.Space space → is_above passed k ≡ false → meets k page end ≡ true → Stays k.id end
+  Passed passed end = (k : Listed) → is_listed set k ≡ true → k.owner ≡ owners.Space space → is_above passed k ≡ false → meets k page end ≡ true → Stays k.id end
 
   pub passed_none : (end : ℕ) → Passed None end
   passed_none end k has own above meeting = absurd (true≢false above)

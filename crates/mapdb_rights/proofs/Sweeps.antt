@@ -1,7 +1,6 @@
 -- Sweeping over entries: one that is next, and what comes behind it.
 use Rattle.std.proofs.Common.{◌≡◌, ℕ, ◌+◌, ◌*◌, ◌<◌, ◌≤◌, true, ap, arith, inl, inr, mul-le-mul_right}
 use Rattle.std.specs.Prelude.{◌⊎◌, Option, Some, min, max, nat_lt}
-use Rattle.std.specs.BTreeSet.{BTreeSet, contains}
 use Rattle.std.specs.Ordering.{is_lt}
 use Rattle.std.proofs.lemmas.Bool.{lt-ltb}
 use Rattle.mapdb_fpage.proofs.Meets.{holds_range}
@@ -11,8 +10,9 @@ use Rattle.mapdb_facts.specs.declared.operations.Record.{Record}
 use Rattle.mapdb_rights.specs.Right.{source_page}
 use Rattle.mapdb_rights.specs.declared.index.places.Listed.{Listed}
 use Rattle.mapdb_rights.specs.declared.index.places.Owner.{Owner}
-use Rattle.mapdb_rights.specs.Listing.{IsLeastMeeting, is_above, listed_cmp, meets, pages_of, place_of, source_of}
+use Rattle.mapdb_rights.specs.Listing.{IsLeastMeeting, is_above, is_listed, meets, pages_of, place_of, source_of}
 use Rattle.mapdb_rights.proofs.ListedOrder.{same_or_above}
+use Rattle.mapdb_rights.specs.declared.index.places.Places.{Places}
 
 -- pages that share one meet
 shared : (a b first end page : ℕ) → a ≤ page → page < b → first ≤ page → page < end → nat_lt (max a first) (min b end) ≡ true
@@ -32,8 +32,8 @@ place_meets r page place inside =
     shared r.place.first_page (r.place.first_page + pages_of (place_of r)) 0 page_limit page (omega arith) (omega arith) (omega arith) (omega arith)
 
 -- what was to come is this entry, or comes behind it
-pub next_or_later : (set : BTreeSet Listed) (owner : Owner) (first end : ℕ) (after : Option Listed) (e k : Listed) → IsLeastMeeting set owner first end after e
-    → contains listed_cmp set k ≡ true → k.owner ≡ owner → is_above after k ≡ true → meets k first end ≡ true → (e ≡ k) ⊎ (is_above (Some e) k ≡ true)
+pub next_or_later : (set : Places) (owner : Owner) (first end : ℕ) (after : Option Listed) (e k : Listed) → IsLeastMeeting set owner first end after e
+    → is_listed set k ≡ true → k.owner ≡ owner → is_above after k ≡ true → meets k first end ≡ true → (e ≡ k) ⊎ (is_above (Some e) k ≡ true)
 next_or_later set owner first end after e k next has own above meeting =
     elim (same_or_above e k (next.least k has own above meeting)) [
       | inl same ↦ inl same

@@ -1,8 +1,6 @@
 -- What changes stand for after one was put into them.
-use Rattle.std.proofs.Common.{◌≡◌, ℕ, ◌<◌, ◌≤◌, true, false, cond, refl, sym, ◌∙◌, arith, inl, inr, subst}
+use Rattle.std.proofs.Common.{◌≡◌, ℕ, ◌<◌, ◌≤◌, true, false, refl, sym, ◌∙◌, arith, inl, inr, subst}
 use Rattle.std.specs.Prelude.{◌&&◌, Option, Some, None, IsSome, nat_eq, nat_le, nat_lt, if◌then◌else◌}
-use Rattle.std.specs.BTreeMap.{is_at}
-use Rattle.std.specs.Map.{lookup}
 use Rattle.std.proofs.lemmas.Bool.{and_from, and_left, and_right, cases_Bool, cond-false, cond-true, eq-eqb, eqb-true, false≢true, lt-ltb, ltb-true}
 use Rattle.mapdb_fpage.specs.Bounds.{page_limit}
 use Rattle.mapdb_fpage.specs.Place.{is_page}
@@ -10,15 +8,9 @@ use Rattle.mapdb_rights.specs.declared.index.changes.Change.{Change}
 use Rattle.mapdb_facts.specs.Exact.{exact_id}
 use Rattle.mapdb_facts.specs.Names.{same_id}
 use Rattle.mapdb_facts.specs.declared.names.RecordId.{RecordId}
-use Rattle.mapdb_rights.specs.declared.index.changes.Spot.{Spot}
 use Rattle.mapdb_rights.specs.Caching.{covers}
-use Rattle.mapdb_rights.specs.Changes.{Changes, at_first, beyond, seen_in, change_at, changed, spot_cmp}
+use Rattle.mapdb_rights.specs.Changes.{Changes, IsPut, at_first, beyond, seen_in, change_at, changed}
 use Rattle.mapdb_rights.proofs.LastChanges.{changed-from, changed-here, changed-same, changed-stays}
-use Rattle.mapdb_rights.proofs.Spots.{spot, spot_at}
-
--- one change was put into others
-abbrev pub IsPut : Changes → RecordId → ℕ → Change → Changes → Type 0
-IsPut old id at change new = (q : Spot) → lookup (is_at (spot_cmp q)) new ≡ cond (is_at (spot_cmp (spot id at)) q) (Some change) (lookup (is_at (spot_cmp q)) old)
 
 different : (a b : ℕ) → (a ≡ b → ⊥) → nat_eq a b ≡ false
 different a b apart = elim (cases_Bool (nat_eq a b)) [ inl same ↦ absurd (apart (eqb-true a b same)) | inr other ↦ other ]
@@ -56,13 +48,14 @@ seen_here changes id page change inside here =
 module _ (old new : Changes) (id : RecordId) (at : ℕ) (change : Change) (put : IsPut old id at change new) where
   pub put_here : change_at new id at ≡ Some change
   put_here =
-      put (spot id at)
-      ∙ cond-true (is_at (spot_cmp (spot id at)) (spot id at)) (Some change) (change_at old id at)
-      (spot_at (spot id at) (spot id at) ∙ and_from (same_id id id) (nat_eq at at) (itself id) (eq-eqb at at refl))
+      put id at
+      ∙ cond-true (same_id id id && nat_eq at at) (Some change) (change_at old id at) (and_from (same_id id id) (nat_eq at at) (itself id) (eq-eqb at at refl))
 
   put_apart : (other : RecordId) (q : ℕ) → (same_id id other && nat_eq at q) ≡ false → change_at new other q ≡ change_at old other q
-  put_apart other q apart =
-      put (spot other q) ∙ cond-false (is_at (spot_cmp (spot id at)) (spot other q)) (Some change) (change_at old other q) (spot_at (spot id at) (spot other q) ∙ apart)
+  put_apart other q apart = put other q ∙ cond-false (same_id id other && nat_eq at q) (Some change) (change_at old other q) apart
+
+  pub put_is_some : IsSome (change_at new id at)
+  put_is_some = subst (λ (o : Option Change). IsSome o) (sym put_here) (search Rattle.std.proofs.Common.rules)
 
   pub put_other_page : (q : ℕ) → (at ≡ q → ⊥) → change_at new id q ≡ change_at old id q
   put_other_page q apart = put_apart id q (and_right (same_id id id) (nat_eq at q) (different at q apart))

@@ -1,6 +1,6 @@
 -- The least name above another among some, and the records of a space that show at a page.
-use Rattle.std.specs.Prelude.{◌≡◌, ℕ, Bool, true, false, ◌&&◌, not, Option, Some, None, if◌then◌else◌}
-use Rattle.std.specs.BTreeSet.{BTreeSet, contains}
+use Rattle.std.specs.Prelude.{◌≡◌, ℕ, Bool, true, false, ◌&&◌, not, Option, Some, None}
+use Rattle.std.specs.Prelude.{if◌then◌else◌}
 use Rattle.std.specs.declared.ops.Bound.{Bound}
 use Rattle.std.specs.declared.ops.Bound.TheVariants.{Excluded, Included}
 use Rattle.mapdb_fpage.specs.RightSets.{is_empty}
@@ -9,19 +9,23 @@ use Rattle.mapdb_facts.specs.State.{State}
 use Rattle.mapdb_facts.specs.declared.names.RecordId.{RecordId}
 use Rattle.mapdb_facts.specs.declared.names.Space.{Space}
 use Rattle.mapdb_rights.specs.declared.index.places.Listed.{Listed}
-use Rattle.mapdb_rights.specs.Listing.{listed_cmp}
 use Rattle.mapdb_rights.specs.Live.{IsLive}
 use Rattle.mapdb_rights.specs.PageRights.{is_record_into}
 use Rattle.mapdb_rights.specs.Right.{rights_at}
+use Rattle.mapdb_rights.specs.declared.index.places.Places.{Places}
+use Rattle.mapdb_rights.specs.Listing.{is_listed}
 
 -- a name that is sound, above another, with none of the sought ones above the other before it
-pub record IsLeastName (Sound Sought : RecordId → Type 0) (after : Option RecordId) (id : RecordId) : Type 0 where
+pub record IsLeastName (Sound Sought : RecordId
+    → Type 0) (after : Option RecordId) (id : RecordId) : Type 0 where
   pub sound : Sound id
   pub above : is_after after id ≡ true
-  pub least : (other : RecordId) → Sought other → is_after after other ≡ true → is_before other id ≡ false
+  pub least : (other : RecordId) → Sought other → is_after after other ≡ true
+      → is_before other id ≡ false
 
 -- that one, where there is one
-abbrev pub IsLeastOf : (RecordId → Type 0) → (RecordId → Type 0) → Option RecordId → Option RecordId → Type 0
+abbrev pub IsLeastOf : (RecordId → Type 0) → (RecordId → Type 0) → Option RecordId
+    → Option RecordId → Type 0
 IsLeastOf Sound Sought after None = (id : RecordId) → Sought id → is_after after id ≡ false
 IsLeastOf Sound Sought after (Some id) = IsLeastName Sound Sought after id
 
@@ -41,18 +45,19 @@ behind_name place None = Included (under place root)
 behind_name place (Some id) = Excluded (under place id)
 
 -- the name stands at the place
-abbrev pub StandsAt : BTreeSet Listed → Listed → RecordId → Type 0
-StandsAt set place id = contains listed_cmp set (under place id) ≡ true
+abbrev pub StandsAt : Places → Listed → RecordId → Type 0
+StandsAt set place id = is_listed set (under place id) ≡ true
 
 -- the name is that of a record into the space with a right at the page
 abbrev pub is_shown : State → Space → ℕ → RecordId → Bool
-is_shown S space page id = is_record_into (S.record_at id) space && not (is_empty (rights_at S id page))
+is_shown S space page id = is_record_into (S.record_at id) space
+    && not (is_empty (rights_at S id page))
 
 abbrev pub IsShown : State → Space → ℕ → RecordId → Type 0
 IsShown S space page id = is_shown S space page id ≡ true
 
 -- such a name that stands at the place
-abbrev pub IsShownAt : BTreeSet Listed → State → Space → ℕ → Listed → RecordId → Type 0
+abbrev pub IsShownAt : Places → State → Space → ℕ → Listed → RecordId → Type 0
 IsShownAt set S space page place id = StandsAt set place id × IsShown S space page id
 
 -- the root, where it has a right at the page of its space

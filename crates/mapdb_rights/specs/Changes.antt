@@ -1,33 +1,37 @@
--- The changes of what is cached: from a page of a record on these rights stand, with frames as far from the pages, up to the next
--- change.
-use Rattle.std.specs.Prelude.{◌≡◌, ◌<◌, ◌+◌, ℕ, zero, suc, false, List, Option, Some, if◌then◌else◌}
-use Rattle.std.specs.BTreeMap.{is_at}
+-- The changes of what is cached: from a page of a record on these rights stand, with frames as far
+-- from the pages, up to the next change.
+use Rattle.std.specs.Prelude.{◌≡◌, ◌<◌, ◌+◌, ℕ, zero, suc, false, ◌&&◌, nat_eq, List, Option}
+use Rattle.std.specs.Prelude.{None, Some, if◌then◌else◌}
 use Rattle.std.specs.Map.{lookup}
 use Rattle.std.specs.Option.{unwrap_or}
-use Rattle.std.specs.Ordering.{nat_cmp, ordering_then}
-use Rattle.std.specs.declared.cmp.Ordering.{Ordering}
 use Rattle.mapdb_fpage.specs.Bounds.{page_limit}
 use Rattle.mapdb_fpage.specs.Place.{is_page}
 use Rattle.mapdb_fpage.specs.RightSets.{all_rights, is_empty, no_rights}
-use Rattle.mapdb_facts.specs.Kept.{id_cmp}
-use Rattle.mapdb_facts.specs.Names.{is_root}
+use Rattle.mapdb_facts.specs.Names.{is_root, same_id}
 use Rattle.mapdb_facts.specs.State.{State}
 use Rattle.mapdb_facts.specs.declared.names.RecordId.{RecordId}
 use Rattle.mapdb_rights.specs.declared.index.changes.Change.{Change}
-use Rattle.mapdb_rights.specs.declared.index.changes.Spot.{Spot}
+use Rattle.mapdb_rights.specs.declared.index.own_changes.OwnChanges.{OwnChanges}
+use Rattle.mapdb_rights.specs.OwnChanges.{own_change}
 use Rattle.mapdb_rights.specs.Caching.{Cached}
 use Rattle.mapdb_rights.specs.Frame.{frame_at}
 
--- spots by the name and then by the page
-abbrev pub spot_cmp : Spot → Spot → Ordering
-spot_cmp a b = ordering_then (id_cmp a.id b.id) (nat_cmp a.page b.page)
-
 abbrev pub Changes : Type 0
-Changes = List (Spot × Change)
+Changes = List (RecordId × OwnChanges)
+
+-- the change at a page among those of a record, where it has some
+abbrev pub change_in : Option OwnChanges → ℕ → Option Change
+change_in None page = None
+change_in (Some own) page = own_change own page
 
 -- what stands from this page of the record on, where it changes there
 abbrev pub change_at : Changes → RecordId → ℕ → Option Change
-change_at changes id page = lookup (is_at (spot_cmp (record { id = id; page = page }))) changes
+change_at changes id page = change_in (lookup (same_id id) changes) page
+
+-- one change of a record was put among all
+abbrev pub IsPut : Changes → RecordId → ℕ → Change → Changes → Type 0
+IsPut old id at change new = (other : RecordId) (page : ℕ) → change_at new other page
+    ≡ (if same_id id other && nat_eq at page then Some change else change_at old other page)
 
 -- what stands before any change: the root has all rights, and each page of it is its own frame
 abbrev pub at_first : RecordId → Change
@@ -44,7 +48,8 @@ changed change first (suc page) = unwrap_or (change (suc page)) (changed change 
 
 -- what the changes leave at each page of each record
 abbrev pub seen_in : Changes → RecordId → ℕ → Change
-seen_in changes id page = if is_page page then changed (change_at changes id) (at_first id) page else beyond
+seen_in changes id page = if is_page page then changed (change_at changes id) (at_first id) page
+    else beyond
 
 -- the cached rights that the changes stand for
 abbrev pub cached_in : Changes → Cached
@@ -59,4 +64,5 @@ pub record HasFrame (S : State) (id : RecordId) (page shift : ℕ) : Type 0 wher
 
 -- where cached rights are not empty, the frame is as far from the page as the change says
 abbrev pub AreFrames : State → Changes → Type 0
-AreFrames S changes = (id : RecordId) (page : ℕ) → is_empty (cached_in changes id page) ≡ false → HasFrame S id page (seen_in changes id page).shift
+AreFrames S changes = (id : RecordId) (page : ℕ) → is_empty (cached_in changes id page) ≡ false
+    → HasFrame S id page (seen_in changes id page).shift

@@ -1,30 +1,28 @@
 -- What an index keeps, and what it stands for.
 use Rattle.std.specs.Prelude.{◌≡◌}
-use Rattle.std.specs.BTreeMap.{BTreeMap}
-use Rattle.std.specs.BTreeSet.{BTreeSet}
 use Rattle.mapdb_facts.specs.State.{State, join, said}
 use Rattle.mapdb_facts.specs.declared.operations.Op.{Op}
-use Rattle.mapdb_rights.specs.declared.index.changes.Change.{Change}
-use Rattle.mapdb_rights.specs.declared.index.changes.Spot.{Spot}
-use Rattle.mapdb_rights.specs.declared.index.places.Listed.{Listed}
+use Rattle.mapdb_rights.specs.declared.index.changes.AllChanges.{AllChanges}
 use Rattle.mapdb_rights.specs.Caching.{AreRights}
 use Rattle.mapdb_rights.specs.Changes.{AreFrames, cached_in}
 use Rattle.mapdb_rights.specs.Listing.{AllAligned, HasPlaces}
+use Rattle.mapdb_rights.specs.declared.index.places.Places.{Places}
 
 -- each record that is held is listed, and what is listed is aligned
-pub record AreListed (S : State) (listed : BTreeSet Listed) : Type 0 where
+pub record AreListed (S : State) (listed : Places) : Type 0 where
   pub places : HasPlaces S listed
   pub aligned : AllAligned listed
 
--- What is kept stands for the state: the cached rights are those of each record at each page, where there are some the frame is
--- the record's, and each record that is held is listed.
-pub record Stands (changes : BTreeMap Spot Change) (listed : BTreeSet Listed) (S : State) : Type 0 where
-  pub rights : AreRights S (cached_in changes.entries)
-  pub frames : AreFrames S changes.entries
+-- What is kept stands for the state: the cached rights are those of each record at each page, where
+-- there are some the frame is the record's, and each record that is held is listed.
+pub record Stands (changes : AllChanges) (listed : Places) (S : State) : Type 0 where
+  pub rights : AreRights S (cached_in changes.own.entries)
+  pub frames : AreFrames S changes.own.entries
   pub listed_there : AreListed S listed
 
 -- what is kept stood for a state that the operation made this one
-pub record Stood (changes : BTreeMap Spot Change) (listed : BTreeSet Listed) (op : Op) (S : State) : Type 0 where
+pub record Stood (changes : AllChanges) (listed : Places) (op : Op) (S : State)
+    : Type 0 where
   pub before : State
   pub is : S ≡ join before (said op)
   pub stood : Stands changes listed before

@@ -28,7 +28,8 @@ holders_of records space part = filter (holds_part space part) records
 abbrev pub children_of : List Record → RecordId → Place → List Record
 children_of records parent part = filter (takes_part parent part) records
 
--- the record shares pages with the place where it is the owner's: a space's by its place, a record's by its source
+-- the record shares pages with the place where it is the owner's: a space's by its place, a
+-- record's by its source
 abbrev pub shares_part : Owner → Place → Record → Bool
 shares_part (owners.Space space) part r = holds_part space part r
 shares_part (owners.Record parent) part r = takes_part parent part r

@@ -11,7 +11,11 @@ use Rattle.mapdb_rights.specs.declared.index.runs.RightsRun.{RightsRun}
 
 -- the pages of a run, with the rights there
 abbrev pub run_of : CutRun → RightsRun
-run_of run = record { first_page = run.first_page; page_count = run.page_count; rights = run.rights }
+run_of run = record {
+  first_page = run.first_page;
+  page_count = run.page_count;
+  rights = run.rights;
+}
 
 -- of rights at pages, the maximal runs from a page on of equal ones, and not none
 unfoldable pub runs_behind : (ℕ → Rights) → ℕ → List RightsRun
@@ -20,7 +24,8 @@ runs_behind at page = map run_of (runs_from at page (page_limit - page))
 -- the first run from a page on, where there is one, and behind it those from its end on
 abbrev pub ComesFirst : (ℕ → Rights) → ℕ → Option RightsRun → Type 0
 ComesFirst at page None = runs_behind at page ≡ []
-ComesFirst at page (Some run) = runs_behind at page ≡ run ∷ runs_behind at (run.first_page + run.page_count)
+ComesFirst at page (Some run) = runs_behind at page
+    ≡ run ∷ runs_behind at (run.first_page + run.page_count)
 
 -- the maximal runs of pages over which a record has equal rights, and not none
 abbrev pub rights_runs : State → RecordId → List RightsRun

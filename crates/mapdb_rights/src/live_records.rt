@@ -10,7 +10,8 @@ ghost use Rattle.mapdb_rights.specs.Right.{rights_at};
 use crate::record_rights::rights_of;
 use mapdb_facts::{Facts, Record, RecordId, Space};
 
-/// Whether the root comes: it is one of the space, has a right at the page, and nothing stands before it.
+/// Whether the root comes: it is one of the space, has a right at the page, and nothing stands
+/// before it.
 fn root_comes(facts: &Facts, space: Space, page: u64, after: Option<RecordId>) -> bool
     ensures { result ≡ (is_after after root && is_first_space space
         && not (is_empty (rights_at (state_of_facts facts.now) root page))) }
@@ -26,7 +27,8 @@ fn is_live(facts: &Facts, space: Space, page: u64, mapping: &Record) -> bool
     mapping.space.is(space) && !rights_of(facts, mapping.id, page).is_none()
 }
 
-/// The least record of the space above another that has a right at the page, where the root is none of these.
+/// The least record of the space above another that has a right at the page, where the root is none
+/// of these.
 fn record_after(facts: &Facts, space: Space, page: u64, after: Option<RecordId>) -> Option<RecordId>
     requires { IsLive (state_of_facts facts.now) space page root → is_after after root ≡ false }
     ensures { IsLiveFrom (state_of_facts facts.now) space page after result }
@@ -42,8 +44,8 @@ fn record_after(facts: &Facts, space: Space, page: u64, after: Option<RecordId>)
     None
 }
 
-/// The least record of the space above another name, or of all, that has a right at the page; in the first space the root
-/// is one of them. It takes no memory, and goes over all records.
+/// The least record of the space above another name, or of all, that has a right at the page; in
+/// the first space the root is one of them. It takes no memory, and goes over all records.
 pub fn live_after(
     facts: &Facts,
     space: Space,

@@ -15,7 +15,8 @@ fn root_until(facts: &Facts, space: Space, page: u64) -> u64
     requires { page < PAGE_LIMIT }
     ensures above { page < result }
     ensures limit { result ≤ PAGE_LIMIT }
-    ensures steady { is_first_space space ≡ true → IsSteady (state_of_facts facts.now) root page result }
+    ensures steady { is_first_space space ≡ true
+        → IsSteady (state_of_facts facts.now) root page result }
 {
     if space.is_first() {
         steady_until(facts, RecordId::ROOT, page)
@@ -39,8 +40,9 @@ fn record_until(facts: &Facts, space: Space, page: u64, mapping: &Record) -> u64
     }
 }
 
-/// The end of pages, from one on, over which each record of the space, in the first space the root too, has equal rights,
-/// and where it has some, a frame that rises by one with each page. It takes no memory, and goes over all records.
+/// The end of pages, from one on, over which each record of the space, in the first space the root
+/// too, has equal rights, and where it has some, a frame that rises by one with each page. It takes
+/// no memory, and goes over all records.
 pub fn show_until(facts: &Facts, space: Space, page: u64) -> u64
     requires { page < PAGE_LIMIT }
     ensures above { page < result }

@@ -6,6 +6,4 @@
 #[cfg(test)]
 mod lines;
 #[cfg(test)]
-mod orders;
-#[cfg(test)]
 mod script;

@@ -1,7 +1,7 @@
 //! What scripts write, and what a run makes of readers and writers that give little or fail.
 
 mod examples;
-mod exchange;
+mod messages;
 mod rows;
 mod sizes;
 mod snapshots;

@@ -26,7 +26,7 @@ use Rattle.mapdb_facts.proofs.Formed.{formed_record}
 use Rattle.mapdb_rights.proofs.Narrow.{narrow_is_enough}
 use Rattle.mapdb_snapshot.specs.Forms.{form_of, narrow, place_within}
 use Rattle.mapdb_snapshot.specs.NarrowTexts.{NarrowTextsAgree, version_by}
-use Rattle.mapdb_snapshot.specs.Reading.{◌>>=◌, Somewhere, Unplaced, all_of, below, cut_of, end_of, list_under, lists_of, members_count, name_at, number_at, or_not_json, or_page, or_shape, placed_all, read_as, record_of, rights_at, row_of, space_at, space_of, unplaced_at, version_of, whole_below}
+use Rattle.mapdb_snapshot.specs.Reading.{◌>>=◌, Somewhere, Unplaced, all_of, below, cut_of, end_read, list_under, form_lists, members_count, name_at, number_at, or_not_json, or_page, or_shape, placed_all, read_as, record_read, rights_read, row_read, space_read_at, space_read, unplaced_at, version_of, whole_below}
 use Rattle.mapdb_snapshot.specs.declared.faults.SnapshotFault.{SnapshotFault}
 use Rattle.mapdb_snapshot.specs.declared.faults.SnapshotFault.TheVariants as fault
 use Rattle.mapdb_snapshot.specs.declared.forms.TheConstants.{NARROW_VERSION}
@@ -138,7 +138,7 @@ record_as id space place parent source rights = record {
 }
 
 abbrev rights_step : RecordId → Space → Unplaced → RecordId → ℕ → Items → Result (Somewhere Op) SnapshotFault
-rights_step id space place parent source row = rights_at 8 row >>= (λ rights. Ok (record_as id space place parent source rights))
+rights_step id space place parent source row = rights_read 8 row >>= (λ rights. Ok (record_as id space place parent source rights))
 
 abbrev source_step : RecordId → Space → Unplaced → RecordId → Items → Result (Somewhere Op) SnapshotFault
 source_step id space place parent row = number_at 7 (2 ^ 20 - 1 + 1) row >>= (λ source. rights_step id space place parent source row)
@@ -150,20 +150,20 @@ abbrev place_step : RecordId → Space → Items → Result (Somewhere Op) Snaps
 place_step id space row = unplaced_at narrow 3 row >>= (λ place. parent_step id space place row)
 
 abbrev space_step : RecordId → Items → Result (Somewhere Op) SnapshotFault
-space_step id row = space_at narrow 2 row >>= (λ space. place_step id space row)
+space_step id row = space_read_at narrow 2 row >>= (λ space. place_step id space row)
 
 abbrev id_step : Items → Result (Somewhere Op) SnapshotFault
 id_step row = name_at 0 row >>= (λ id. space_step id row)
 
-record_near : (d : Data) (one : Somewhere Op) → record_of narrow d ≡ Ok one → StaysNear one
+record_near : (d : Data) (one : Somewhere Op) → record_read narrow d ≡ Ok one → StaysNear one
 record_near d one e =
-    let row = bind_ok (row_of 9 d) id_step one e in
+    let row = bind_ok (row_read 9 d) id_step one e in
     let id = bind_ok (name_at 0 row.0) (λ id. space_step id row.0) one row.2 in
-    let space = bind_ok (space_at narrow 2 row.0) (λ space. place_step id.0 space row.0) one id.2 in
+    let space = bind_ok (space_read_at narrow 2 row.0) (λ space. place_step id.0 space row.0) one id.2 in
     let place = bind_ok (unplaced_at narrow 3 row.0) (λ place. parent_step id.0 space.0 place row.0) one space.2 in
     let parent = bind_ok (name_at 5 row.0) (λ parent. source_step id.0 space.0 place.0 parent row.0) one place.2 in
     let source = bind_ok (number_at 7 (2 ^ 20 - 1 + 1) row.0) (λ source. rights_step id.0 space.0 place.0 parent.0 source row.0) one parent.2 in
-    let rights = bind_ok (rights_at 8 row.0) (λ rights. Ok (record_as id.0 space.0 place.0 parent.0 source.0 rights)) one source.2 in
+    let rights = bind_ok (rights_read 8 row.0) (λ rights. Ok (record_as id.0 space.0 place.0 parent.0 source.0 rights)) one source.2 in
     let small : source.0 < 2 ^ 20 = number_below 7 (2 ^ 20) source.0 row.0 source.1 in
     let near : StaysNear (record_as id.0 space.0 place.0 parent.0 source.0 rights.0) = λ at order. (small, order) in
     subst StaysNear (ok_same (record_as id.0 space.0 place.0 parent.0 source.0 rights.0) one rights.2) near
@@ -172,20 +172,20 @@ abbrev cut_as : RecordId → Unplaced → Rights → Somewhere Op
 cut_as target place rights = record { place = place; value = λ at. Cut (record { target = target; part = at; rights = rights }) }
 
 abbrev cut_place_step : RecordId → Items → Result (Somewhere Op) SnapshotFault
-cut_place_step target row = unplaced_at narrow 2 row >>= (λ place. rights_at 4 row >>= (λ rights. Ok (cut_as target place rights)))
+cut_place_step target row = unplaced_at narrow 2 row >>= (λ place. rights_read 4 row >>= (λ rights. Ok (cut_as target place rights)))
 
 cut_near : (d : Data) (one : Somewhere Op) → cut_of narrow d ≡ Ok one → StaysNear one
 cut_near d one e =
-    let row = bind_ok (row_of 5 d) (λ row. name_at 0 row >>= (λ target. cut_place_step target row)) one e in
+    let row = bind_ok (row_read 5 d) (λ row. name_at 0 row >>= (λ target. cut_place_step target row)) one e in
     let target = bind_ok (name_at 0 row.0) (λ target. cut_place_step target row.0) one row.2 in
-    let place = bind_ok (unplaced_at narrow 2 row.0) (λ place. rights_at 4 row.0 >>= (λ rights. Ok (cut_as target.0 place rights))) one target.2 in
-    let rights = bind_ok (rights_at 4 row.0) (λ rights. Ok (cut_as target.0 place.0 rights)) one place.2 in
+    let place = bind_ok (unplaced_at narrow 2 row.0) (λ place. rights_read 4 row.0 >>= (λ rights. Ok (cut_as target.0 place rights))) one target.2 in
+    let rights = bind_ok (rights_read 4 row.0) (λ rights. Ok (cut_as target.0 place.0 rights)) one place.2 in
     let near : StaysNear (cut_as target.0 place.0 rights.0) = λ at order. tt in
     subst StaysNear (ok_same (cut_as target.0 place.0 rights.0) one rights.2) near
 
-end_near : (d : Data) (op : Op) → end_of narrow d ≡ Ok op → IsNear op
+end_near : (d : Data) (op : Op) → end_read narrow d ≡ Ok op → IsNear op
 end_near d op e =
-    let space = bind_ok (space_of narrow d) (λ space. Ok (Closed space)) op e in
+    let space = bind_ok (space_read narrow d) (λ space. Ok (Closed space)) op e in
     let near : IsNear (Closed space.0) = tt in
     subst IsNear (ok_same (Closed space.0) op space.2) near
 
@@ -202,27 +202,27 @@ abbrev born_step : List (Somewhere Op) → List Op → List (Somewhere Op) → R
 born_step cuts ends records = placed_all narrow records >>= (λ born. cut_step cuts ends born)
 
 abbrev records_step : Members → List (Somewhere Op) → List Op → Result (List Op) SnapshotFault
-records_step members cuts ends = list_under (codes "records") (record_of narrow) members >>= (λ records. born_step cuts ends records)
+records_step members cuts ends = list_under (codes "records") (record_read narrow) members >>= (λ records. born_step cuts ends records)
 
 abbrev ends_step : Members → List (Somewhere Op) → Result (List Op) SnapshotFault
-ends_step members cuts = list_under (codes "ended") (end_of narrow) members >>= (λ ends. records_step members cuts ends)
+ends_step members cuts = list_under (codes "ended") (end_read narrow) members >>= (λ ends. records_step members cuts ends)
 
-lists_near : (members : Members) (ops : List Op) → lists_of narrow members ≡ Ok ops → (op : Op) → IsAmong op ops → IsNear op
+lists_near : (members : Members) (ops : List Op) → form_lists narrow members ≡ Ok ops → (op : Op) → IsAmong op ops → IsNear op
 lists_near members ops e op among =
     let cuts = bind_ok (list_under (codes "cuts") (cut_of narrow) members) (λ cuts. ends_step members cuts) ops e in
-    let ends = bind_ok (list_under (codes "ended") (end_of narrow) members) (λ ends. records_step members cuts.0 ends) ops cuts.2 in
-    let records = bind_ok (list_under (codes "records") (record_of narrow) members) (λ records. born_step cuts.0 ends.0 records) ops ends.2 in
+    let ends = bind_ok (list_under (codes "ended") (end_read narrow) members) (λ ends. records_step members cuts.0 ends) ops cuts.2 in
+    let records = bind_ok (list_under (codes "records") (record_read narrow) members) (λ records. born_step cuts.0 ends.0 records) ops ends.2 in
     let born = bind_ok (placed_all narrow records.0) (λ born. cut_step cuts.0 ends.0 born) ops records.2 in
     let cut = bind_ok (placed_all narrow cuts.0) (λ cut. Ok (born.0 ++ cut ++ ends.0)) ops born.2 in
     elim (among_split op (born.0 ++ cut.0) ends.0 (subst (IsAmong op) (sym (ok_same (born.0 ++ cut.0 ++ ends.0) ops cut.2)) among)) [
       | inl placed ↦ elim (among_split op born.0 cut.0 placed) [
-        | inl here ↦ placed_near records.0 born.0 born.1 (list_kept StaysNear (codes "records") (record_of narrow) record_near members records.0 records.1) op here
+        | inl here ↦ placed_near records.0 born.0 born.1 (list_kept StaysNear (codes "records") (record_read narrow) record_near members records.0 records.1) op here
         | inr here ↦ placed_near cuts.0 cut.0 cut.1 (list_kept StaysNear (codes "cuts") (cut_of narrow) cut_near members cuts.0 cuts.1) op here
       ]
-      | inr here ↦ list_kept IsNear (codes "ended") (end_of narrow) end_near members ends.0 ends.1 op here
+      | inr here ↦ list_kept IsNear (codes "ended") (end_read narrow) end_near members ends.0 ends.1 op here
     ]
 
-counted : (t : Bool) (members : Members) (ops : List Op) → (if t then lists_of narrow members else Err fault.Shape) ≡ Ok ops → lists_of narrow members ≡ Ok ops
+counted : (t : Bool) (members : Members) (ops : List Op) → (if t then form_lists narrow members else Err fault.Shape) ≡ Ok ops → form_lists narrow members ≡ Ok ops
 counted true found ops e = e
 counted false found ops e = absurd (err_ok fault.Shape ops e)
 

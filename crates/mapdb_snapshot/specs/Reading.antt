@@ -1,5 +1,6 @@
 -- What a text says as a snapshot, or why it is none.
-use Rattle.std.specs.Prelude.{ℕ, suc, ◌+◌, ◌*◌, ◌^◌, ◌==◌, List, [], ◌∷◌, ◌++◌, nat_lt, Option, Some, None, option_and_then, Result, Ok, Err, if◌then◌else◌, codes}
+use Rattle.std.specs.Prelude.{ℕ, suc, ◌+◌, ◌*◌, ◌^◌, ◌==◌, List, [], ◌∷◌, ◌++◌, nat_lt, Option}
+use Rattle.std.specs.Prelude.{Some, None, option_and_then, Result, Ok, Err, if◌then◌else◌, codes}
 use Rattle.std.specs.Str.{is_utf8}
 use Rattle.serde_json.specs.Data.{Data, Items, Members, item, member, no_items, no_members}
 use Rattle.serde_json.specs.Find.{as_array, as_number, as_object, as_u64, get_item, get_member}
@@ -20,7 +21,8 @@ use Rattle.mapdb_snapshot.specs.Forms.{form_of, place_within, space_places}
 
 infixl 10 ◌>>=◌
 -- one step after the other, up to the first fault
-abbrev pub ◌>>=◌ : {A B : Type 0} → Result A SnapshotFault → (A → Result B SnapshotFault) → Result B SnapshotFault
+abbrev pub ◌>>=◌ : {A B : Type 0} → Result A SnapshotFault → (A → Result B SnapshotFault)
+    → Result B SnapshotFault
 (Ok x) >>= f = f x
 (Err e) >>= f = Err e
 
@@ -34,7 +36,9 @@ below limit n = if nat_lt n limit then Some n else None
 
 -- a whole number below a limit
 abbrev pub whole_below : ℕ → Data → Result ℕ SnapshotFault
-whole_below limit d = or_shape (option_and_then (below limit) (option_and_then as_u64 (option_and_then as_number (Some d))))
+whole_below limit d =
+    or_shape (option_and_then (below limit) (option_and_then as_u64
+    (option_and_then as_number (Some d))))
 
 -- the number at this place of a row
 abbrev pub number_at : ℕ → ℕ → Items → Result ℕ SnapshotFault
@@ -49,11 +53,12 @@ members_count no_members = 0
 members_count (member k d ms) = suc (members_count ms)
 
 -- the row, if it has so many places
-abbrev pub row_of : ℕ → Data → Result Items SnapshotFault
-row_of count d = or_shape (option_and_then (λ row. if items_count row == count then Some row else None) (as_array d))
+abbrev pub row_read : ℕ → Data → Result Items SnapshotFault
+row_read count d = or_shape (option_and_then (λ row. if items_count row == count then Some row
+    else None) (as_array d))
 
-abbrev pub rights_at : ℕ → Items → Result Rights SnapshotFault
-rights_at place row = do
+abbrev pub rights_read : ℕ → Items → Result Rights SnapshotFault
+rights_read place row = do
   bits ← number_at place 8 row
   or_shape (rights_of_bits bits)
 
@@ -69,8 +74,8 @@ abbrev pub version_at : Form → ℕ → Items → Result ℕ SnapshotFault
 version_at form place row = if form.has_versions then number_at place (2 ^ 32) row else Ok 0
 
 -- the space whose number, and version where it has one, stand from this place on
-abbrev pub space_at : Form → ℕ → Items → Result Space SnapshotFault
-space_at form place row = do
+abbrev pub space_read_at : Form → ℕ → Items → Result Space SnapshotFault
+space_read_at form place row = do
   number ← number_at place 65536 row
   version ← version_at form (place + 1) row
   Ok (record { number = number; version = version })
@@ -82,8 +87,9 @@ first_of_number d = do
   Ok (record { number = number; version = 0 })
 
 -- a space by itself: [number, version], or its number where rows have no version
-abbrev pub space_of : Form → Data → Result Space SnapshotFault
-space_of form d = if form.has_versions then row_of 2 d >>= space_at form 0 else first_of_number d
+abbrev pub space_read : Form → Data → Result Space SnapshotFault
+space_read form d =
+    if form.has_versions then row_read 2 d >>= space_read_at form 0 else first_of_number d
 
 -- a place by its first page and its order, before it is looked at
 pub record Unplaced : Type 0 where
@@ -101,38 +107,50 @@ pub record Somewhere (A : Type 0) : Type 0 where
   pub place : Unplaced
   pub value : Place → A
 
--- [number, processor, space, space version, page, s, parent number, parent processor, source page, rights], the space version
--- where rows have one
-abbrev pub record_of : Form → Data → Result (Somewhere Op) SnapshotFault
-record_of form d = do
-  row ← row_of (8 + space_places form) d
+-- [number, processor, space, space version, page, s, parent number, parent processor, source page,
+-- rights], the space version where rows have one
+abbrev pub record_read : Form → Data → Result (Somewhere Op) SnapshotFault
+record_read form d = do
+  row ← row_read (8 + space_places form) d
   id ← name_at 0 row
-  space ← space_at form 2 row
+  space ← space_read_at form 2 row
   place ← unplaced_at form (2 + space_places form) row
   parent ← name_at (4 + space_places form) row
   source ← number_at (6 + space_places form) (form.most_source + 1) row
-  rights ← rights_at (7 + space_places form) row
+  rights ← rights_read (7 + space_places form) row
   Ok (record {
     place = place;
-    value = λ at. Born (record { id = id; space = space; place = at; parent = parent; source = source; rights = rights });
+    value =
+        λ at. Born (record {
+          id = id;
+          space = space;
+          place = at;
+          parent = parent;
+          source = source;
+          rights = rights;
+        });
   })
 
 -- [number, processor, page, s, rights]
 abbrev pub cut_of : Form → Data → Result (Somewhere Op) SnapshotFault
 cut_of form d = do
-  row ← row_of 5 d
+  row ← row_read 5 d
   target ← name_at 0 row
   place ← unplaced_at form 2 row
-  rights ← rights_at 4 row
-  Ok (record { place = place; value = λ at. Cut (record { target = target; part = at; rights = rights }) })
+  rights ← rights_read 4 row
+  Ok (record {
+    place = place;
+    value = λ at. Cut (record { target = target; part = at; rights = rights });
+  })
 
-abbrev pub end_of : Form → Data → Result Op SnapshotFault
-end_of form d = do
-  space ← space_of form d
+abbrev pub end_read : Form → Data → Result Op SnapshotFault
+end_read form d = do
+  space ← space_read form d
   Ok (Closed space)
 
 -- each value of a list, up to the first fault
-abbrev pub all_of : {A : Type 0} → (Data → Result A SnapshotFault) → Items → Result (List A) SnapshotFault
+abbrev pub all_of : {A : Type 0} → (Data → Result A SnapshotFault) → Items
+    → Result (List A) SnapshotFault
 all_of read_one no_items = Ok []
 all_of read_one (item d ds) = do
   one ← read_one d
@@ -140,8 +158,10 @@ all_of read_one (item d ds) = do
   Ok (one ∷ rest)
 
 -- the list under a key
-abbrev pub list_under : {A : Type 0} → List ℕ → (Data → Result A SnapshotFault) → Members → Result (List A) SnapshotFault
-list_under key read_one members = or_shape (option_and_then as_array (get_member key members)) >>= all_of read_one
+abbrev pub list_under : {A : Type 0} → List ℕ → (Data → Result A SnapshotFault) → Members
+    → Result (List A) SnapshotFault
+list_under key read_one members =
+    or_shape (option_and_then as_array (get_member key members)) >>= all_of read_one
 
 abbrev pub or_page : {A : Type 0} → (Place → A) → Result Place FpageFault → Result A SnapshotFault
 or_page value (Ok place) = Ok (value place)
@@ -151,7 +171,8 @@ or_page value (Err f) = Err (fault.Page f)
 abbrev pub placed_all : {A : Type 0} → Form → List (Somewhere A) → Result (List A) SnapshotFault
 placed_all form [] = Ok []
 placed_all form (one ∷ rest) = do
-  first ← or_page one.value (place_within form.top_order form.address_limit (one.place.page * page_bytes) one.place.order)
+  first ← or_page one.value (place_within form.top_order form.address_limit
+      (one.place.page * page_bytes) one.place.order)
   others ← placed_all form rest
   Ok (first ∷ others)
 
@@ -159,11 +180,11 @@ abbrev pub version_of : Members → Result ℕ SnapshotFault
 version_of members = or_shape (get_member (codes "version") members) >>= whole_below (2 ^ 64)
 
 -- the lists of a snapshot of this form, in which no other key stands
-abbrev pub lists_of : Form → Members → Result (List Op) SnapshotFault
-lists_of form members = do
+abbrev pub form_lists : Form → Members → Result (List Op) SnapshotFault
+form_lists form members = do
   cuts ← list_under (codes "cuts") (cut_of form) members
-  ends ← list_under (codes "ended") (end_of form) members
-  records ← list_under (codes "records") (record_of form) members
+  ends ← list_under (codes "ended") (end_read form) members
+  records ← list_under (codes "records") (record_read form) members
   born ← placed_all form records
   cut ← placed_all form cuts
   Ok (born ++ cut ++ ends)
@@ -171,9 +192,11 @@ lists_of form members = do
 -- the lists, where the version is read and no other key stands
 abbrev pub read_as : Option Form → Members → Result (List Op) SnapshotFault
 read_as None found = Err fault.Version
-read_as (Some form) found = if members_count found == 4 then lists_of form found else Err fault.Shape
+read_as (Some form) found = if members_count found == 4 then form_lists form found
+    else Err fault.Shape
 
--- What JSON says as a snapshot: the records, then the revocations, then the ends, each in the order of the text.
+-- What JSON says as a snapshot: the records, then the revocations, then the ends, each in the order
+-- of the text.
 abbrev pub operations_of : Data → Result (List Op) SnapshotFault
 operations_of d = do
   members ← or_shape (as_object d)

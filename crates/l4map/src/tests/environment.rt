@@ -41,7 +41,8 @@ const SCRIPT: &[u8] = b"processors 1\nend 0 9\n";
 /// Bytes enough for each text here.
 const ROOM: usize = 65_536;
 
-/// Asserts which status the words come to, what is written, and what stands in what the errors are told.
+/// Asserts which status the words come to, what is written, and what stands in what the errors are
+/// told.
 fn expect<R: AllocGlobal + Threads + Wait + Sync + Abort + Eprint>(
     rt: &R,
     words: &[&[u8]],

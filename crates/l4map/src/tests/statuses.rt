@@ -9,8 +9,8 @@ use std::test::Fail;
 const RUN: &[&str] = &["l4map", "run"];
 
 /// One map, and queries in and beyond the place where it leads.
-const SCRIPT: &[u8] =
-    b"processors 1\nmap 0 0 10000/14:rw- 8000 1 40000/16\nrights 0 1 48000\nrights 0 1 4b000\nrights 0 1 4c000\n";
+const SCRIPT: &[u8] = b"processors 1\nmap 0 0 10000/14:rw- 8000 1 40000/16\n\
+    rights 0 1 48000\nrights 0 1 4b000\nrights 0 1 4c000\n";
 
 /// What the script writes.
 const OUTPUT: &[u8] = b"records 1.0\nrights 00010:rw-\nrights 00013:rw-\nrights none\n";
@@ -20,10 +20,14 @@ const HELP: &str = "Runs scripts on a replicated L4 X.2 mapping database.
 
 Usage: l4map run < SCRIPT
        l4map threads [--capacity N] < SCRIPT
+       l4map picture < SNAPSHOT
+       l4map explain SPACE ADDRESS < SNAPSHOT
 
 Commands:
   run      Reads a script from standard input and writes the replies to standard output
   threads  Runs the commands of a script, those of each processor in threads of their own
+  picture  Reads a snapshot from standard input and writes a picture of it as Graphviz text
+  explain  Reads a snapshot from standard input and tells why a page of a space has what it has
 ";
 
 /// How the help of `run` begins.
@@ -47,6 +51,23 @@ fn first_path(rt: HostRuntime) {
     assert_eq!(rt; serve(&rt, RUN, &mut reader, &mut writer, &mut errors), 0);
     assert_eq!(rt; writer.bytes.as_slice(), OUTPUT);
     assert!(rt; errors.bytes.is_empty());
+}
+
+#[test]
+fn the_version(rt: HostRuntime) {
+    let mut reader = Script::new(SCRIPT);
+    let mut writer = Transcript::new(rt.alloc(), ROOM);
+    let mut errors = Transcript::new(rt.alloc(), ROOM);
+    let words = ["l4map", "--version"];
+    assert_eq!(rt;
+        serve(&rt, &words, &mut reader, &mut writer, &mut errors),
+        2
+    );
+    assert!(rt; writer.bytes.is_empty());
+    assert_eq!(rt;
+        errors.bytes.as_slice(),
+        b"l4map 1.0.0 (rattle-kit-13f)\n".as_slice()
+    );
 }
 
 #[test]

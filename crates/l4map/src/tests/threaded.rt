@@ -32,12 +32,15 @@ const NO_CAPACITY: &str = "error: the capacity of a link is a number from 1 to 1
 
 Usage: l4map run < SCRIPT
        l4map threads [--capacity N] < SCRIPT
+       l4map picture < SNAPSHOT
+       l4map explain SPACE ADDRESS < SNAPSHOT
 ";
 
 /// Bytes enough for each text here.
 const ROOM: usize = 65_536;
 
-/// Asserts which status the words and a script come to, what is written, and what the errors are told.
+/// Asserts which status the words and a script come to, what is written, and what the errors are
+/// told.
 fn expect<R: AllocGlobal + Threads + Wait + Sync + Abort>(
     rt: &R,
     words: &[&str],

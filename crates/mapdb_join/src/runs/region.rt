@@ -20,7 +20,11 @@ impl Model for Region {
 
     ghost view = { λ r. record { first = r.first; count = r.count; bits = r.bits } };
 
-    ghost invariant = { λ r. IsPageRange (record { first = r.first; count = r.count; bits = r.bits }) };
+    ghost invariant = { λ r. IsPageRange (record {
+      first = r.first;
+      count = r.count;
+      bits = r.bits;
+    }) };
 
     ghost inverse = { λ r. record { first = r.first; count = r.count; bits = r.bits } };
 }

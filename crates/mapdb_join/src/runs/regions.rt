@@ -1,5 +1,6 @@
 //! Bits that are added over a region of pages.
-ghost use Rattle.std.specs.Prelude.{◌≡◌, ◌∷◌, [], ◌++◌, ◌+◌, ◌≤◌, ◌<◌, ◌^◌, List, length, take, map, bit_or, IsTrue, ◌↔◌, OnOk, OnErr, IfOk, slice_range};
+ghost use Rattle.std.specs.Prelude.{◌≡◌, ◌∷◌, [], ◌++◌, ◌+◌, ◌≤◌, ◌<◌, ◌^◌, List, length, take};
+ghost use Rattle.std.specs.Prelude.{map, bit_or, IsTrue, ◌↔◌, OnOk, OnErr, IfOk, slice_range};
 ghost use Rattle.std.specs.List.{All, splice};
 ghost use Rattle.mapdb_join.specs.Runs.{Ascends, HasOver, IsOver, IsRuns, count_below, last_bits};
 ghost use Rattle.mapdb_join.specs.Tidy.{front, region, tidy, with_bits};
@@ -11,7 +12,8 @@ use std::alloc::{AllocError, Global};
 
 /// Appends a start, where it changes the bits.
 fn put(list: &mut Vec<Start>, before: u8, start: Start) -> Result<(), AllocError>
-    ensures { OnOk result ((xs : List Start) → list.old.items ≡ tidy before xs → list.new.items ≡ tidy before (xs ++ start ∷ [])) }
+    ensures { OnOk result ((xs : List Start) → list.old.items ≡ tidy before xs
+        → list.new.items ≡ tidy before (xs ++ start ∷ [])) }
 {
     if bits_before(before, list.as_slice(), list.len()) != start.bits {
         list.push(start)?;
@@ -21,7 +23,8 @@ fn put(list: &mut Vec<Start>, before: u8, start: Start) -> Result<(), AllocError
 
 /// Appends starts, each with the bits added, where they change the bits.
 fn put_all(list: &mut Vec<Start>, before: u8, starts: &[Start], bits: u8) -> Result<(), AllocError>
-    ensures { OnOk result ((xs : List Start) → list.old.items ≡ tidy before xs → list.new.items ≡ tidy before (xs ++ map (with_bits bits) starts.now)) }
+    ensures { OnOk result ((xs : List Start) → list.old.items ≡ tidy before xs
+        → list.new.items ≡ tidy before (xs ++ map (with_bits bits) starts.now)) }
 {
     for start in starts {
         put(
@@ -51,7 +54,8 @@ fn replace(
     Ok(())
 }
 
-/// Appends the starts from one index up to another, each with the bits added, where they change the bits.
+/// Appends the starts from one index up to another, each with the bits added, where they change the
+/// bits.
 fn put_between(
     list: &mut Vec<Start>,
     before: u8,
@@ -61,7 +65,9 @@ fn put_between(
     bits: u8,
 ) -> Result<(), AllocError>
     requires { (low ≤ high) × (high ≤ length starts.now) }
-    ensures { OnOk result ((xs : List Start) → list.old.items ≡ tidy before xs → list.new.items ≡ tidy before (xs ++ map (with_bits bits) (slice_range starts.now low high))) }
+    ensures { OnOk result ((xs : List Start) → list.old.items ≡ tidy before xs
+        → list.new.items ≡ tidy before (xs
+        ++ map (with_bits bits) (slice_range starts.now low high))) }
 {
     put_all(list, before, &starts[low..high], bits)
 }
@@ -76,7 +82,8 @@ struct Change {
     list: Vec<Start>,
 }
 
-/// The change that adds bits over a region: its starts with the bits added, and one behind it, where they change the bits.
+/// The change that adds bits over a region: its starts with the bits added, and one behind it,
+/// where they change the bits.
 fn change_over(
     alloc: Global,
     starts: &[Start],
@@ -88,8 +95,10 @@ fn change_over(
     requires some { (first < end) × (end ≤ RUN_LIMIT) }
     ensures low { IfOk result (λ made. made.low ≡ count_below starts.now first) }
     ensures high { IfOk result (λ made. made.high ≡ count_below starts.now (end + 1)) }
-    ensures bounds { IfOk result (λ made. (made.low ≤ made.high) × (made.high ≤ length starts.now)) }
-    ensures list { IfOk result (λ made. made.list.items ≡ tidy (last_bits 0 (front starts.now first end bits)) (region starts.now first end bits)) }
+    ensures bounds { IfOk result (λ made. (made.low ≤ made.high)
+        × (made.high ≤ length starts.now)) }
+    ensures list { IfOk result (λ made. made.list.items
+        ≡ tidy (last_bits 0 (front starts.now first end bits)) (region starts.now first end bits)) }
 {
     let low = starts_below(starts, first);
     let inner = starts_below(starts, first + 1);
@@ -119,7 +128,8 @@ fn change_over(
     Ok(Change { low, high, list })
 }
 
-/// Adds bits to each page of a region that is not empty. The only error is want of memory, and then nothing has changed.
+/// Adds bits to each page of a region that is not empty. The only error is want of memory, and then
+/// nothing has changed.
 pub(crate) fn add_over(
     starts: &mut Vec<Start>,
     alloc: Global,
@@ -149,7 +159,8 @@ fn all_have(starts: &[Start], bits: u8) -> bool
 /// Whether each start from one index up to another has all of the bits.
 fn have_between(starts: &[Start], low: usize, high: usize, bits: u8) -> bool
     requires { (low ≤ high) × (high ≤ length starts.now) }
-    ensures { IsTrue result ↔ All (λ start. bit_or start.bits bits ≡ start.bits) (slice_range starts.now low high) }
+    ensures { IsTrue result ↔ All (λ start. bit_or start.bits bits
+        ≡ start.bits) (slice_range starts.now low high) }
 {
     all_have(&starts[low..high], bits)
 }
@@ -169,8 +180,8 @@ pub(crate) fn has_over(starts: &[Start], first: u64, end: u64, bits: u8) -> bool
     have_between(starts, inner, outer, bits)
 }
 
-/// Adds bits to each page of a region that is not empty, and answers whether a page lacked one of them. The only error is
-/// want of memory, and then nothing has changed.
+/// Adds bits to each page of a region that is not empty, and answers whether a page lacked one of
+/// them. The only error is want of memory, and then nothing has changed.
 pub(crate) fn add_region(
     starts: &mut Vec<Start>,
     alloc: Global,

@@ -1,6 +1,7 @@
 //! Lists of places where the bits of pages change.
 ghost use Rattle.std.specs.Prelude.{◌≡◌, ◌+◌, ◌≤◌, ◌<◌, length, take, IfNone, IfOk, IfSome};
-ghost use Rattle.mapdb_join.specs.Runs.{Ascends, HasNothingFrom, IsLeastRun, IsRunAt, IsRuns, bits_after, count_below, last_bits};
+ghost use Rattle.mapdb_join.specs.Runs.{Ascends, HasNothingFrom, IsLeastRun, IsRunAt, IsRuns};
+ghost use Rattle.mapdb_join.specs.Runs.{bits_after, count_below, last_bits};
 
 use crate::runs::bounds::RUN_LIMIT;
 use std::alloc::{AllocError, Global};
@@ -66,7 +67,8 @@ pub(crate) fn run_index(starts: &[Start], page: u64) -> Option<usize>
     None
 }
 
-/// The least run whose last page is not below a page: its first page, how many pages it has, and their bits.
+/// The least run whose last page is not below a page: its first page, how many pages it has, and
+/// their bits.
 pub(crate) fn least_run(starts: &[Start], page: u64) -> Option<(u64, u64, u8)>
     requires { IsRuns starts.now }
     ensures none { IfNone result (HasNothingFrom page starts.now) }

@@ -1,6 +1,8 @@
 //! Walks over the runs of one list.
-ghost use Rattle.std.specs.Prelude.{◌≡◌, ◌+◌, ◌≤◌, ◌<◌, ◌⊎◌, ℕ, bit_or, IsTrue, ◌↔◌, OnOk, OnErr, IfSome, IfNone};
-ghost use Rattle.mapdb_join.specs.Runs.{CoversAll, HasNothingFrom, IsBothOf, IsLeastRun, IsPartlyBoth, IsRuns};
+ghost use Rattle.std.specs.Prelude.{◌≡◌, ◌+◌, ◌≤◌, ◌<◌, ◌⊎◌, ℕ, bit_or, IsTrue, ◌↔◌, OnOk, OnErr};
+ghost use Rattle.std.specs.Prelude.{IfSome, IfNone};
+ghost use Rattle.mapdb_join.specs.Runs.{CoversAll, HasNothingFrom, IsBothOf, IsLeastRun};
+ghost use Rattle.mapdb_join.specs.Runs.{IsPartlyBoth, IsRuns};
 
 use crate::runs::bounds::{BITS_LIMIT, RUN_LIMIT};
 use crate::runs::regions::{add_region, has_over};
@@ -22,8 +24,8 @@ pub(crate) fn covers_all(mine: &[Start], theirs: &[Start]) -> bool
     true
 }
 
-/// Adds all runs of the second list to the first. The only error is want of memory, and then each page has its old bits, or
-/// those of both.
+/// Adds all runs of the second list to the first. The only error is want of memory, and then each
+/// page has its old bits, or those of both.
 pub(crate) fn merge_all(
     mine: &mut Vec<Start>,
     alloc: Global,

@@ -66,7 +66,8 @@ fn fault_at<R: Abort + Threads + Wait + Sync, G: Gate + Sync>(
     Ok(run(rt, alloc, scripts, 2, gate).err())
 }
 
-/// Where one lock stood round all nodes, or one thread did everything, no two processors would be held at once.
+/// Where one lock stood round all nodes, or one thread did everything, no two processors would be
+/// held at once.
 #[test]
 fn no_parallelism(rt: HostRuntime) -> Result<(), Fail> {
     let meeting = Meeting {

@@ -86,8 +86,8 @@ fn link_fin(rt: HostRuntime) -> Result<(), Fail> {
     Ok(())
 }
 
-/// Puts so many batches on a new link before the first is received, and receives them. A put that waits for a receiver waits
-/// for good.
+/// Puts so many batches on a new link before the first is received, and receives them. A put that
+/// waits for a receiver waits for good.
 fn fill<R: Abort + Wait>(rt: &R, alloc: Global, capacity: u32) -> Result<(), Fail>
     requires some { 0 < capacity }
     requires most { capacity ≤ MOST_CAPACITY }
@@ -111,7 +111,8 @@ fn a_link_holds_its_capacity(rt: HostRuntime) -> Result<(), Fail> {
     fill(&rt, rt.alloc(), 1_024)
 }
 
-/// Puts more batches than the link holds and the other end receives. Answers whether one was handed back.
+/// Puts more batches than the link holds and the other end receives. Answers whether one was handed
+/// back.
 fn put_until_gone<R: Wait>(rt: &R, alloc: Global, outgoing: Outgoing) -> bool {
     let mut outgoing = outgoing;
     for index in 0..5 {

@@ -71,7 +71,8 @@ fn open_gate(rt: HostRuntime) -> Result<(), Fail> {
     expect_one(&rt, rt.alloc(), node, seat, Closed::Entries(1))
 }
 
-/// Lets the three points of one call at the copy of processor 3 pass in their order, and nothing else.
+/// Lets the three points of one call at the copy of processor 3 pass in their order, and nothing
+/// else.
 #[derive(Drop)]
 struct InOrder {
     passed: AtomicU64,

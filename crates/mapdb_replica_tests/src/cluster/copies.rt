@@ -1,7 +1,7 @@
 //! What outside examples say of single copies, as the crates above them see them.
 //!
-//! Commands and batches are made before the copies, assertions stand in functions of their own, and tests are short: a test
-//! with many borrows and ways out is long to prove.
+//! Commands and batches are made before the copies, assertions stand in functions of their own, and
+//! tests are short: a test with many borrows and ways out is long to prove.
 
 use mapdb_facts::{Op, RecordId, Revocation, Space};
 use mapdb_fpage::{Fpage, MapItem, Rights};

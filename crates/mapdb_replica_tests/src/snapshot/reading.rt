@@ -123,8 +123,8 @@ fn rights_of_revocations(rt: HostRuntime) {
 
 #[test]
 fn rows_of_each_kind(rt: HostRuntime) -> Result<(), Fail> {
-    let text =
-        "{ \"version\": 1, \"records\": [[1, 0, 2, 64, 14, 3, 4, 16, 5]],\n \"ended\": [9], \"cuts\": [[1, 0, 65, 12, 2]] }";
+    let text = "{ \"version\": 1, \"records\": [[1, 0, 2, 64, 14, 3, 4, 16, 5]],\n \"ended\": [9], \
+        \"cuts\": [[1, 0, 65, 12, 2]] }";
     let id = RecordId {
         number: 1,
         processor: 0,

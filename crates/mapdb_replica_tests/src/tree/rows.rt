@@ -74,8 +74,8 @@ fn agree(tree: &Tree, plain: &PlainTree) -> bool {
         && plain.agrees(tree, space(3), 0x40)
 }
 
-/// Four pages go down three spaces and one of them back to the second; then parts lose rights, the second of them
-/// ends, and pages are mapped again.
+/// Four pages go down three spaces and one of them back to the second; then parts lose rights, the
+/// second of them ends, and pages are mapped again.
 #[test]
 fn the_plain_tree_agrees(rt: HostRuntime) -> Result<(), Fail> {
     let rows = [

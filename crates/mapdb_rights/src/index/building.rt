@@ -5,25 +5,24 @@ ghost use Rattle.mapdb_facts.specs.Facts.{state_of_facts};
 ghost use Rattle.mapdb_rights.specs.Listing.{AllAligned};
 ghost use Rattle.mapdb_rights.specs.Following.{Stands};
 
-use super::changes::{Change, Spot};
+use super::changes::AllChanges;
 use super::children::push_children;
 use super::listing::list_records;
-use super::places::Listed;
+use super::places::Places;
 use super::settling::settle;
 use super::stale::Stale;
 use mapdb_facts::{Facts, RecordId};
 use mapdb_fpage::PAGE_LIMIT;
 use std::alloc::{AllocError, Global};
-use std::collections::{BTreeMap, BTreeSet};
 
 /// From no changes on all is settled, beginning with the root and what has its pages from there.
 pub fn settle_all(
-    changes: &mut BTreeMap<Spot, Change>,
-    listed: &mut BTreeSet<Listed>,
+    changes: &mut AllChanges,
+    listed: &mut Places,
     alloc: Global,
     facts: &Facts,
 ) -> Result<(), AllocError>
-    requires changes { changes.old.entries ≡ [] }
+    requires changes { changes.old.own.entries ≡ [] }
     requires listed { AllAligned listed.old }
     ensures { OnOk result (Stands changes.new listed.new (state_of_facts facts.now)) }
 {

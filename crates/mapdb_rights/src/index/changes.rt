@@ -1,32 +1,25 @@
 //! What records have at pages, kept as the pages from which something else stands.
 
-ghost use Rattle.std.specs.Prelude.{◌≡◌, ◌≤◌, ◌<◌, ◌+◌, ℕ, None, Some, IfNone, IfSome, IsSome, OnOk, if◌then◌else◌};
+ghost use Rattle.std.specs.Prelude.{◌≡◌, ◌≤◌, ◌<◌, ◌+◌, ℕ, None, IsSome, OnOk, [], is_some};
+ghost use Rattle.std.specs.Prelude.{if◌then◌else◌};
 ghost use Rattle.mapdb_facts.specs.declared.names.RecordId.{RecordId};
-ghost use Rattle.mapdb_rights.specs.Changes.{at_first, cached_in, change_at, seen_in};
+ghost use Rattle.mapdb_rights.specs.Changes.{IsPut, at_first, cached_in, change_at, seen_in};
 ghost use Rattle.mapdb_rights.specs.Caching.{covers};
+ghost use Rattle.mapdb_rights.specs.OwnChanges.{IsLastUpTo, IsNoneUntil};
 
+use super::own_changes::OwnChanges;
 use mapdb_facts::RecordId;
 use mapdb_fpage::{PAGE_LIMIT, Rights};
-use std::alloc::AllocError;
-use std::collections::BTreeMap;
-use std::ops::Bound;
-
-/// A page of a record.
-#[derive(Clone, Copy, Debug, PartialEq, Eq, PartialOrd, Ord)]
-pub struct Spot {
-    /// The name of the record.
-    pub id: RecordId,
-    /// The page.
-    pub page: u64,
-}
+use std::alloc::{AllocError, Global};
+use std::collections::HashMap;
 
 /// What a record has from a page on, up to its next change.
 #[derive(Clone, Copy, Debug)]
 pub struct Change {
     /// The rights.
     pub rights: Rights,
-    /// How far the frames lie from the pages: the frame of a page is the page and this, less [`PAGE_LIMIT`]. It says nothing
-    /// where there are no rights.
+    /// How far the frames lie from the pages: the frame of a page is the page and this, less
+    /// [`PAGE_LIMIT`]. It says nothing where there are no rights.
     pub shift: u64,
 }
 
@@ -46,47 +39,86 @@ impl Change {
     }
 }
 
-/// The last change of a record up to a page.
-fn last_change(changes: &BTreeMap<Spot, Change>, id: RecordId, page: u64) -> Option<(u64, Change)>
-    ensures none { IfNone result ((q : ℕ) → q ≤ page → change_at changes.now.entries id q ≡ None) }
-    ensures here { IfSome result (λ last. change_at changes.now.entries id last.0 ≡ Some last.1) }
-    ensures up_to { IfSome result (λ last. last.0 ≤ page) }
-    ensures last { IfSome result (λ last. (q : ℕ) → last.0 < q → q ≤ page
-        → change_at changes.now.entries id q ≡ None) }
-{
-    let from = Spot { id, page: 0 };
-    let to = Spot { id, page };
-    match changes
-        .range((Bound::Included(&from), Bound::Included(&to)))
-        .next_back()
+impl Default for Change {
+    fn default() -> Change {
+        Change::NONE
+    }
+}
+
+/// The changes of all records, each record's by themselves.
+#[derive(Drop)]
+pub struct AllChanges {
+    own: HashMap<RecordId, OwnChanges>,
+    alloc: Global,
+}
+
+impl AllChanges {
+    /// No changes. It takes no memory.
+    pub(crate) fn new(alloc: Global) -> AllChanges
+        ensures { result.own.entries ≡ [] }
     {
-        Some((spot, change)) => Some((spot.page, *change)),
+        AllChanges {
+            own: HashMap::new(alloc),
+            alloc,
+        }
+    }
+}
+
+/// The last change of a record up to a page, and where it stands.
+fn last_change(changes: &AllChanges, id: RecordId, page: u64) -> Option<(u64, Change)>
+    ensures { IsLastUpTo (change_at changes.now.own.entries id) page result }
+{
+    match changes.own.get(&id) {
+        Some(own) => own.last(page),
         None => None,
     }
 }
 
 /// The page of the next change of a record behind a page: the end of the space where there is none.
-fn next_change(changes: &BTreeMap<Spot, Change>, id: RecordId, page: u64) -> u64
+fn next_change(changes: &AllChanges, id: RecordId, page: u64) -> u64
     requires { page < PAGE_LIMIT }
     ensures above { page < result }
     ensures limit { result ≤ PAGE_LIMIT }
-    ensures none { (q : ℕ) → page < q → q < result → change_at changes.now.entries id q ≡ None }
+    ensures none { IsNoneUntil (change_at changes.now.own.entries id) page result }
 {
-    let from = Spot { id, page };
-    let to = Spot {
-        id,
-        page: PAGE_LIMIT,
-    };
-    match changes
-        .range((Bound::Excluded(&from), Bound::Included(&to)))
-        .next()
-    {
-        Some((spot, _)) => spot.page,
+    match changes.own.get(&id) {
+        Some(own) => own.next(page),
         None => PAGE_LIMIT,
     }
 }
 
-/// What a record has before any change: the root has all rights, and each page of it is its own frame.
+/// Whether a record has a change at a page.
+fn has_change(changes: &AllChanges, id: RecordId, page: u64) -> bool
+    ensures { result ≡ is_some (change_at changes.now.own.entries id page) }
+{
+    match last_change(changes, id, page) {
+        Some((at, _)) => at == page,
+        None => false,
+    }
+}
+
+/// Puts a change of a record among all, in place of one that stands at its page. An error where
+/// memory was wanted.
+fn put(
+    own_changes: &mut HashMap<RecordId, OwnChanges>,
+    alloc: Global,
+    id: RecordId,
+    page: u64,
+    change: Change,
+) -> Result<(), AllocError>
+    ensures { OnOk result (IsPut own_changes.old.entries id page change own_changes.new.entries) }
+{
+    if let Some(own) = own_changes.get_mut(&id) {
+        return own.put(alloc, page, change);
+    }
+    let mut own = OwnChanges::new(alloc);
+    own.put(alloc, page, change)?;
+    own_changes.insert(id, own)?;
+    Ok(())
+}
+
+/// What a record has before any change: the root has all rights, and each page of it is its own
+/// frame.
 fn first_change(id: RecordId) -> Change
     ensures { result ≡ at_first id }
 {
@@ -102,8 +134,8 @@ fn first_change(id: RecordId) -> Change
 }
 
 /// What is cached of a record at a page.
-pub(crate) fn seen_at(changes: &BTreeMap<Spot, Change>, id: RecordId, page: u64) -> Change
-    ensures { result ≡ seen_in changes.now.entries id page }
+pub(crate) fn seen_at(changes: &AllChanges, id: RecordId, page: u64) -> Change
+    ensures { result ≡ seen_in changes.now.own.entries id page }
 {
     if page >= PAGE_LIMIT {
         return Change::NONE;
@@ -115,50 +147,47 @@ pub(crate) fn seen_at(changes: &BTreeMap<Spot, Change>, id: RecordId, page: u64)
 }
 
 /// The cached rights of a record at a page.
-pub(crate) fn cached_at(changes: &BTreeMap<Spot, Change>, id: RecordId, page: u64) -> Rights
-    ensures { result ≡ cached_in changes.now.entries id page }
+pub(crate) fn cached_at(changes: &AllChanges, id: RecordId, page: u64) -> Rights
+    ensures { result ≡ cached_in changes.now.own.entries id page }
 {
     seen_at(changes, id, page).rights
 }
 
 /// The end of pages from one on over which one change stands.
-pub(crate) fn unchanged_until(changes: &BTreeMap<Spot, Change>, id: RecordId, page: u64) -> u64
+pub(crate) fn unchanged_until(changes: &AllChanges, id: RecordId, page: u64) -> u64
     requires { page < PAGE_LIMIT }
     ensures above { page < result }
     ensures limit { result ≤ PAGE_LIMIT }
-    ensures none { (q : ℕ) → page < q → q < result → change_at changes.now.entries id q ≡ None }
+    ensures none { (q : ℕ) → page < q → q < result → change_at changes.now.own.entries id q ≡ None }
     ensures same { (q : ℕ) → page ≤ q → q < result
-        → seen_in changes.now.entries id q ≡ seen_in changes.now.entries id page }
+        → seen_in changes.now.own.entries id q ≡ seen_in changes.now.own.entries id page }
 {
     next_change(changes, id, page)
 }
 
 /// Makes what stands at the end of pages over which one change stands a change of its own.
-fn split_at(
-    changes: &mut BTreeMap<Spot, Change>,
-    id: RecordId,
-    first: u64,
-    end: u64,
-) -> Result<(), AllocError>
+fn split_at(changes: &mut AllChanges, id: RecordId, first: u64, end: u64) -> Result<(), AllocError>
     requires some { first < end }
     requires limit { end ≤ PAGE_LIMIT }
-    requires one { (q : ℕ) → first < q → q < end → change_at changes.old.entries id q ≡ None }
-    ensures same { OnOk result ((other : RecordId) (page : ℕ) → seen_in changes.new.entries other page
-        ≡ seen_in changes.old.entries other page) }
-    ensures one { OnOk result ((q : ℕ) → first < q → q < end → change_at changes.new.entries id q ≡ None) }
-    ensures ends { OnOk result (end < PAGE_LIMIT → IsSome (change_at changes.new.entries id end)) }
+    requires one { (q : ℕ) → first < q → q < end → change_at changes.old.own.entries id q ≡ None }
+    ensures same { OnOk result ((other : RecordId) (page : ℕ)
+        → seen_in changes.new.own.entries other page
+        ≡ seen_in changes.old.own.entries other page) }
+    ensures one { OnOk result ((q : ℕ) → first < q → q < end
+        → change_at changes.new.own.entries id q ≡ None) }
+    ensures ends { OnOk result (end < PAGE_LIMIT
+        → IsSome (change_at changes.new.own.entries id end)) }
 {
-    if end == PAGE_LIMIT || changes.contains_key(&Spot { id, page: end }) {
+    if end == PAGE_LIMIT || has_change(changes, id, end) {
         return Ok(());
     }
     let change = seen_at(changes, id, first);
-    changes.insert(Spot { id, page: end }, change)?;
-    Ok(())
+    put(&mut changes.own, changes.alloc, id, end, change)
 }
 
 /// Gives rights and frames to pages of a record over which one change stands.
 pub(crate) fn write(
-    changes: &mut BTreeMap<Spot, Change>,
+    changes: &mut AllChanges,
     id: RecordId,
     first: u64,
     end: u64,
@@ -166,13 +195,16 @@ pub(crate) fn write(
 ) -> Result<(), AllocError>
     requires some { first < end }
     requires limit { end ≤ PAGE_LIMIT }
-    requires one { (q : ℕ) → first < q → q < end → change_at changes.old.entries id q ≡ None }
-    ensures seen { OnOk result ((other : RecordId) (page : ℕ) → seen_in changes.new.entries other page
-        ≡ (if covers id first end other page then change else seen_in changes.old.entries other page)) }
-    ensures cached { OnOk result ((other : RecordId) (page : ℕ) → cached_in changes.new.entries other page
-        ≡ (if covers id first end other page then change.rights else cached_in changes.old.entries other page)) }
+    requires one { (q : ℕ) → first < q → q < end → change_at changes.old.own.entries id q ≡ None }
+    ensures seen { OnOk result ((other : RecordId) (page : ℕ)
+        → seen_in changes.new.own.entries other page
+        ≡ (if covers id first end other page then change
+        else seen_in changes.old.own.entries other page)) }
+    ensures cached { OnOk result ((other : RecordId) (page : ℕ)
+        → cached_in changes.new.own.entries other page
+        ≡ (if covers id first end other page then change.rights
+        else cached_in changes.old.own.entries other page)) }
 {
     split_at(changes, id, first, end)?;
-    changes.insert(Spot { id, page: first }, change)?;
-    Ok(())
+    put(&mut changes.own, changes.alloc, id, first, change)
 }

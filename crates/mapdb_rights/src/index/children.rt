@@ -1,7 +1,6 @@
 //! What has its pages from a record, and what stands in a space: their pages join what is stale.
 
 ghost use Rattle.std.specs.Prelude.{◌≡◌, ◌≤◌, ◌<◌, ◌+◌, ◌*◌, ℕ, true, Some, OnOk};
-ghost use Rattle.std.specs.BTreeSet.{btree_set_len};
 ghost use Rattle.mapdb_fpage.specs.Place.{holds};
 ghost use Rattle.mapdb_facts.specs.Facts.{state_of_facts};
 ghost use Rattle.mapdb_facts.specs.Looking.{Holds};
@@ -9,16 +8,15 @@ ghost use Rattle.mapdb_facts.specs.Names.{same_id, same_space};
 ghost use Rattle.mapdb_facts.specs.WellFormed.{IsFormedRecord};
 ghost use Rattle.mapdb_facts.specs.declared.names.RecordId.{RecordId};
 ghost use Rattle.mapdb_facts.specs.declared.operations.Record.{Record};
-ghost use Rattle.mapdb_rights.specs.Listing.{AllAligned, IsListed};
+ghost use Rattle.mapdb_rights.specs.Listing.{AllAligned, IsListed, listed_len};
 ghost use Rattle.mapdb_rights.specs.Pending.{IsPending, share, weight};
 ghost use Rattle.mapdb_rights.specs.Right.{source_page};
 
-use super::places::{Listed, Owner, next_meeting};
+use super::places::{Owner, Places};
 use super::stale::Stale;
 use mapdb_facts::{Facts, Record, RecordId, Space};
 use mapdb_fpage::PAGE_LIMIT;
 use std::alloc::AllocError;
-use std::collections::BTreeSet;
 
 /// The pages of the child whose source pages are among these join what is stale.
 fn push_child(
@@ -74,10 +72,11 @@ fn push_held(
     }
 }
 
-/// The children of the parent whose source meets these pages: their pages that come from there join what is stale.
+/// The children of the parent whose source meets these pages: their pages that come from there join
+/// what is stale.
 pub(crate) fn push_children(
     stack: &mut Vec<Stale>,
-    listed: &BTreeSet<Listed>,
+    listed: &Places,
     facts: &Facts,
     parent: RecordId,
     first: u64,
@@ -86,22 +85,18 @@ pub(crate) fn push_children(
     requires { AllAligned listed.now }
     ensures kept { OnOk result ((id : RecordId) (page : ℕ)
         → IsPending stack.old.items id page → IsPending stack.new.items id page) }
-    ensures stale { OnOk result ((r : Record) → Holds (state_of_facts facts.now) r → IsFormedRecord r
+    ensures stale { OnOk result ((r : Record) → Holds (state_of_facts facts.now) r
+        → IsFormedRecord r
         → IsListed listed.now r → r.parent ≡ parent → (page : ℕ) → holds r.place page ≡ true
         → first ≤ source_page r page → source_page r page < end
         → IsPending stack.new.items r.id page) }
     ensures weight { OnOk result ((base : ℕ) → 0 < base → weight base stack.new.items
         ≤ weight base stack.old.items
-        + btree_set_len listed.now * share base (parent.number + 1)) }
+        + listed_len listed.now * share base (parent.number + 1)) }
 {
     let mut after = None;
-    'children: while let Some(child) = next_meeting(
-        listed,
-        Owner::Record(parent),
-        first,
-        end,
-        after,
-    ) {
+    let owner = Owner::Record(parent);
+    'children: while let Some(child) = listed.next_meeting(owner, first, end, after) {
         push_held(stack, facts, parent, child.id, first, end)?;
         after = Some(child);
     }
@@ -112,7 +107,8 @@ pub(crate) fn push_children(
 fn push_place(stack: &mut Vec<Stale>, facts: &Facts, id: RecordId) -> Result<(), AllocError>
     ensures kept { OnOk result ((other : RecordId) (page : ℕ)
         → IsPending stack.old.items other page → IsPending stack.new.items other page) }
-    ensures stale { OnOk result ((r : Record) → (state_of_facts facts.now).record_at id ≡ Some r → (page : ℕ)
+    ensures stale { OnOk result ((r : Record) → (state_of_facts facts.now).record_at id ≡ Some r
+        → (page : ℕ)
         → holds r.place page ≡ true → IsPending stack.new.items id page) }
 {
     if let Some(mapping) = facts.record(id) {
@@ -128,7 +124,7 @@ fn push_place(stack: &mut Vec<Stale>, facts: &Facts, id: RecordId) -> Result<(),
 /// The pages of all records into a space join what is stale.
 pub(crate) fn push_space(
     stack: &mut Vec<Stale>,
-    listed: &BTreeSet<Listed>,
+    listed: &Places,
     facts: &Facts,
     space: Space,
 ) -> Result<(), AllocError>
@@ -138,13 +134,8 @@ pub(crate) fn push_space(
         → IsPending stack.new.items r.id page) }
 {
     let mut after = None;
-    'places: while let Some(entry) = next_meeting(
-        listed,
-        Owner::Space(space),
-        0,
-        PAGE_LIMIT,
-        after,
-    ) {
+    let owner = Owner::Space(space);
+    'places: while let Some(entry) = listed.next_meeting(owner, 0, PAGE_LIMIT, after) {
         push_place(stack, facts, entry.id)?;
         after = Some(entry);
     }

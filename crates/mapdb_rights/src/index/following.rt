@@ -12,20 +12,19 @@ ghost use Rattle.mapdb_facts.specs.WellFormed.{is_formed};
 ghost use Rattle.mapdb_facts.specs.declared.operations.Op.{Op};
 ghost use Rattle.mapdb_rights.specs.Following.{Stood, Stands};
 
-use super::changes::{Change, Spot};
+use super::changes::AllChanges;
 use super::children::push_space;
 use super::listing::list_record;
-use super::places::Listed;
+use super::places::Places;
 use super::settling::settle;
 use super::stale::Stale;
 use mapdb_facts::{Facts, Record, Revocation, Space};
 use std::alloc::{AllocError, Global};
-use std::collections::{BTreeMap, BTreeSet};
 
 /// A record came: it takes its rights from its parent, and what waited for it follows.
 pub fn follow_record(
-    changes: &mut BTreeMap<Spot, Change>,
-    listed: &mut BTreeSet<Listed>,
+    changes: &mut AllChanges,
+    listed: &mut Places,
     alloc: Global,
     facts: &Facts,
     mapping: &Record,
@@ -44,10 +43,11 @@ pub fn follow_record(
     settle(changes, &mut stack, listed, facts)
 }
 
-/// Rights were taken from a part of a record: it loses them, and what has its pages from there follows.
+/// Rights were taken from a part of a record: it loses them, and what has its pages from there
+/// follows.
 pub fn follow_cut(
-    changes: &mut BTreeMap<Spot, Change>,
-    listed: &BTreeSet<Listed>,
+    changes: &mut AllChanges,
+    listed: &Places,
     alloc: Global,
     facts: &Facts,
     cut: &Revocation,
@@ -67,8 +67,8 @@ pub fn follow_cut(
 
 /// A space ended: its records lose their rights, and what has its pages from there follows.
 pub fn follow_end(
-    changes: &mut BTreeMap<Spot, Change>,
-    listed: &BTreeSet<Listed>,
+    changes: &mut AllChanges,
+    listed: &Places,
     alloc: Global,
     facts: &Facts,
     space: Space,

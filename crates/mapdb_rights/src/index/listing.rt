@@ -1,39 +1,38 @@
 //! Which places are listed: each held record at its place, and at its source.
 
 ghost use Rattle.std.specs.Prelude.{◌≡◌, true, OnOk};
-ghost use Rattle.std.specs.BTreeSet.{contains};
 ghost use Rattle.mapdb_facts.specs.Facts.{state_of_facts};
 ghost use Rattle.mapdb_facts.specs.WellFormed.{IsFormedRecord};
 ghost use Rattle.mapdb_rights.specs.Following.{AreListed};
-ghost use Rattle.mapdb_rights.specs.Listing.{AllAligned, IsAligned, IsListed, listed_cmp};
+ghost use Rattle.mapdb_rights.specs.Listing.{AllAligned, IsAligned, IsListed, is_listed};
 ghost use Rattle.mapdb_rights.specs.declared.index.places.Listed.{Listed};
 
-use super::places::{Listed, Owner};
+use super::places::{Listed, Owner, Places};
 use mapdb_facts::{Facts, Record};
 use std::alloc::AllocError;
-use std::collections::BTreeSet;
 
 /// Lists one place more.
-fn list_place(listed: &mut BTreeSet<Listed>, place: Listed) -> Result<(), AllocError>
+fn list_place(listed: &mut Places, place: Listed) -> Result<(), AllocError>
     requires place { IsAligned place }
     requires aligned { AllAligned listed.old }
     ensures aligned { OnOk result (AllAligned listed.new) }
-    ensures there { OnOk result (contains listed_cmp listed.new place ≡ true) }
-    ensures kept { OnOk result ((other : Listed) → contains listed_cmp listed.old other ≡ true
-        → contains listed_cmp listed.new other ≡ true) }
+    ensures there { OnOk result (is_listed listed.new place ≡ true) }
+    ensures kept { OnOk result ((other : Listed) → is_listed listed.old other ≡ true
+        → is_listed listed.new other ≡ true) }
 {
     listed.insert(place)?;
     Ok(())
 }
 
-/// Lists a record: its source for its parent, which may be held or not, and its place for its space.
-pub(crate) fn list_record(listed: &mut BTreeSet<Listed>, mapping: &Record) -> Result<(), AllocError>
+/// Lists a record: its source for its parent, which may be held or not, and its place for its
+/// space.
+pub(crate) fn list_record(listed: &mut Places, mapping: &Record) -> Result<(), AllocError>
     requires formed { IsFormedRecord mapping.now }
     requires aligned { AllAligned listed.old }
     ensures aligned { OnOk result (AllAligned listed.new) }
     ensures there { OnOk result (IsListed listed.new mapping.now) }
-    ensures kept { OnOk result ((other : Listed) → contains listed_cmp listed.old other ≡ true
-        → contains listed_cmp listed.new other ≡ true) }
+    ensures kept { OnOk result ((other : Listed) → is_listed listed.old other ≡ true
+        → is_listed listed.new other ≡ true) }
 {
     let order = mapping.place.order();
     let source = Listed {
@@ -53,7 +52,7 @@ pub(crate) fn list_record(listed: &mut BTreeSet<Listed>, mapping: &Record) -> Re
 }
 
 /// Lists each held record.
-pub(crate) fn list_records(listed: &mut BTreeSet<Listed>, facts: &Facts) -> Result<(), AllocError>
+pub(crate) fn list_records(listed: &mut Places, facts: &Facts) -> Result<(), AllocError>
     requires { AllAligned listed.old }
     ensures { OnOk result (AreListed (state_of_facts facts.now) listed.new) }
 {

@@ -5,19 +5,19 @@ ghost use Rattle.mapdb_facts.specs.Facts.{records_of_facts, state_of_facts};
 ghost use Rattle.mapdb_facts.specs.Names.{is_after, is_first_space, root};
 ghost use Rattle.mapdb_fpage.specs.Bounds.{page_limit};
 ghost use Rattle.mapdb_fpage.specs.RightSets.{is_empty};
-ghost use Rattle.mapdb_rights.specs.Among.{behind_name, IsLeastOf, IsLiveRoot, IsShown, IsShownAt, StandsAt, is_shown, lesser};
+ghost use Rattle.mapdb_rights.specs.Among.{behind_name, IsLeastOf, IsLiveRoot, IsShown, IsShownAt};
+ghost use Rattle.mapdb_rights.specs.Among.{StandsAt, is_shown, lesser};
 ghost use Rattle.mapdb_rights.specs.Following.{Stands};
 ghost use Rattle.mapdb_rights.specs.Listing.{IsFirstInside};
 ghost use Rattle.mapdb_rights.specs.Live.{IsLive, IsLiveFrom, live_names};
 ghost use Rattle.mapdb_rights.specs.PageRights.{is_record_into};
 ghost use Rattle.mapdb_rights.specs.Right.{rights_at};
 
-use super::changes::{Change, Spot, cached_at};
-use super::places::{Listed, Owner, first_above, first_from, next_meeting};
+use super::changes::{AllChanges, cached_at};
+use super::places::{Listed, Owner, Places};
 use mapdb_facts::{Facts, RecordId, Space};
 use mapdb_fpage::PAGE_LIMIT;
 use std::alloc::{AllocError, Global};
-use std::collections::{BTreeMap, BTreeSet};
 
 /// The lesser of two names.
 fn lesser(one: Option<RecordId>, other: Option<RecordId>) -> Option<RecordId>
@@ -30,24 +30,22 @@ fn lesser(one: Option<RecordId>, other: Option<RecordId>) -> Option<RecordId>
     }
 }
 
-/// The first entry of a place's owner that stands at the place under a name above another, or behind the place.
-fn entry_after(listed: &BTreeSet<Listed>, place: Listed, after: Option<RecordId>) -> Option<Listed>
+/// The first entry of a place's owner that stands at the place under a name above another, or
+/// behind the place.
+fn entry_after(listed: &Places, place: Listed, after: Option<RecordId>) -> Option<Listed>
     ensures { IsFirstInside listed.now place.owner (behind_name place after) result }
 {
     match after {
-        Some(id) => first_above(listed, Listed { id, ..place }),
-        None => first_from(
-            listed,
-            Listed {
-                id: RecordId::ROOT,
-                ..place
-            },
-        ),
+        Some(id) => listed.first_above(Listed { id, ..place }),
+        None => listed.first_from(Listed {
+            id: RecordId::ROOT,
+            ..place
+        }),
     }
 }
 
 /// The least name above another, or of all, that stands at the place.
-fn name_after(listed: &BTreeSet<Listed>, place: Listed, after: Option<RecordId>) -> Option<RecordId>
+fn name_after(listed: &Places, place: Listed, after: Option<RecordId>) -> Option<RecordId>
     ensures { IsLeastOf (StandsAt listed.now place) (StandsAt listed.now place) after result }
 {
     match entry_after(listed, place, after) {
@@ -57,7 +55,7 @@ fn name_after(listed: &BTreeSet<Listed>, place: Listed, after: Option<RecordId>)
 }
 
 /// Whether the name is that of a record into the space.
-fn is_into(facts: &Facts, space: Space, id: RecordId) -> bool
+pub(crate) fn is_into(facts: &Facts, space: Space, id: RecordId) -> bool
     ensures { result ≡ is_record_into ((state_of_facts facts.now).record_at id) space }
 {
     match facts.record(id) {
@@ -68,8 +66,8 @@ fn is_into(facts: &Facts, space: Space, id: RecordId) -> bool
 
 /// Whether the name is that of a record into the space with a right at the page.
 fn is_shown(
-    changes: &BTreeMap<Spot, Change>,
-    listed: &BTreeSet<Listed>,
+    changes: &AllChanges,
+    listed: &Places,
     facts: &Facts,
     space: Space,
     page: u64,
@@ -81,10 +79,11 @@ fn is_shown(
     is_into(facts, space, id) && !cached_at(changes, id, page).is_none()
 }
 
-/// The least of the names at a place above another, or of all, whose records of the space have a right at the page.
+/// The least of the names at a place above another, or of all, whose records of the space have a
+/// right at the page.
 fn shown_after(
-    changes: &BTreeMap<Spot, Change>,
-    listed: &BTreeSet<Listed>,
+    changes: &AllChanges,
+    listed: &Places,
     facts: &Facts,
     space: Space,
     page: u64,
@@ -105,10 +104,11 @@ fn shown_after(
     None
 }
 
-/// Whether the root comes: it is of the space, has a right at the page, and nothing stands before it.
+/// Whether the root comes: it is of the space, has a right at the page, and nothing stands before
+/// it.
 fn root_comes(
-    changes: &BTreeMap<Spot, Change>,
-    listed: &BTreeSet<Listed>,
+    changes: &AllChanges,
+    listed: &Places,
     facts: &Facts,
     space: Space,
     page: u64,
@@ -123,8 +123,8 @@ fn root_comes(
 
 /// The root, where it comes.
 fn root_after(
-    changes: &BTreeMap<Spot, Change>,
-    listed: &BTreeSet<Listed>,
+    changes: &AllChanges,
+    listed: &Places,
     facts: &Facts,
     space: Space,
     page: u64,
@@ -151,11 +151,12 @@ fn behind_order(entry: Listed) -> Listed
     }
 }
 
-/// The least record of the space above another name, or of all, that has a right at the page; in the first space the root is
-/// one of them. It takes no memory: of each order one place holds the page, and its names ascend.
+/// The least record of the space above another name, or of all, that has a right at the page; in
+/// the first space the root is one of them. It takes no memory: of each order one place holds the
+/// page, and its names ascend.
 pub(crate) fn live_after(
-    changes: &BTreeMap<Spot, Change>,
-    listed: &BTreeSet<Listed>,
+    changes: &AllChanges,
+    listed: &Places,
     facts: &Facts,
     space: Space,
     page: u64,
@@ -169,7 +170,7 @@ pub(crate) fn live_after(
     let end = page.saturating_add(1);
     let mut found = root_after(changes, listed, facts, space, page, after);
     let mut passed = None;
-    'orders: while let Some(entry) = next_meeting(listed, owner, page, end, passed) {
+    'orders: while let Some(entry) = listed.next_meeting(owner, page, end, passed) {
         let shown = shown_after(changes, listed, facts, space, page, entry, after);
         found = lesser(found, shown);
         passed = Some(behind_order(entry));
@@ -177,12 +178,12 @@ pub(crate) fn live_after(
     found
 }
 
-/// The names of all records of the space that have a right at the page, in ascending order; in the first space the root is
-/// one of them.
+/// The names of all records of the space that have a right at the page, in ascending order; in the
+/// first space the root is one of them.
 pub(crate) fn all_live(
     alloc: Global,
-    changes: &BTreeMap<Spot, Change>,
-    listed: &BTreeSet<Listed>,
+    changes: &AllChanges,
+    listed: &Places,
     facts: &Facts,
     space: Space,
     page: u64,

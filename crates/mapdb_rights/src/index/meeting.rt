@@ -14,8 +14,8 @@ impl RightsIndex {
     ghost use Rattle.mapdb_rights.specs.Index.{KeepsUp};
     ghost use Rattle.mapdb_rights.specs.Meeting.{children_of, holders_of};
 
-    /// The records of a space whose places share pages with this one, in ascending order of name. None where the index is
-    /// absent. An error where memory was wanted for the list.
+    /// The records of a space whose places share pages with this one, in ascending order of name.
+    /// None where the index is absent. An error where memory was wanted for the list.
     pub fn holders(
         &self,
         facts: &Facts,
@@ -27,7 +27,8 @@ impl RightsIndex {
         ensures there { self.now.absent ≡ false → IfOk result (λ found. IsSome found) }
         ensures holders { IfOk result (λ found. IfSome found (λ list. list.items
             ≡ holders_of (records_of_facts facts.now) space part.now)) }
-        ensures formed { IfOk result (λ found. IfSome found (λ list. All IsFormedRecord list.items)) }
+        ensures formed { IfOk result (λ found. IfSome found
+            (λ list. All IsFormedRecord list.items)) }
     {
         if self.absent {
             return Ok(None);
@@ -36,8 +37,9 @@ impl RightsIndex {
         Ok(Some(found))
     }
 
-    /// The children of a record, or of a name that is not held, whose sources share pages with this place, in ascending order
-    /// of name. None where the index is absent. An error where memory was wanted for the list.
+    /// The children of a record, or of a name that is not held, whose sources share pages with this
+    /// place, in ascending order of name. None where the index is absent. An error where memory was
+    /// wanted for the list.
     pub fn children(
         &self,
         facts: &Facts,
@@ -49,7 +51,8 @@ impl RightsIndex {
         ensures there { self.now.absent ≡ false → IfOk result (λ found. IsSome found) }
         ensures children { IfOk result (λ found. IfSome found (λ list. list.items
             ≡ children_of (records_of_facts facts.now) parent part.now)) }
-        ensures formed { IfOk result (λ found. IfSome found (λ list. All IsFormedRecord list.items)) }
+        ensures formed { IfOk result (λ found. IfSome found
+            (λ list. All IsFormedRecord list.items)) }
     {
         if self.absent {
             return Ok(None);

@@ -1,17 +1,20 @@
-//! The places of records: by the space that each stands in, and by the record that its pages come from.
+//! The places of records, by owner: a space has those of its records, a record those that its
+//! children's pages come from.
 
-ghost use Rattle.std.specs.Prelude.{◌≡◌, ◌≤◌, ◌<◌, ◌+◌, ◌-◌, ◌^◌, ℕ, true, false, IfSome, Some};
-ghost use Rattle.std.specs.BTreeSet.{contains};
+ghost use Rattle.std.specs.Prelude.{◌≡◌, ◌||◌, false, IfSome, OnOk, option_map};
+ghost use Rattle.std.specs.BTreeMap.{is_at};
 ghost use Rattle.std.specs.declared.ops.Bound.TheVariants.{Excluded, Included};
-ghost use Rattle.mapdb_rights.specs.Listing.{AllAligned, HasReached, IsAligned, IsFirstInside, IsNextMeeting, listed_cmp, meets, orders_ahead, same_owner};
+ghost use Rattle.mapdb_rights.specs.Listing.{AllAligned, IsFirstInside, IsNextMeeting, is_among};
+ghost use Rattle.mapdb_rights.specs.Listing.{is_listed, listed_cmp, listed_for, own_place};
+ghost use Rattle.mapdb_rights.specs.declared.index.places.Listed.{Listed};
 
+use super::own_places::{OwnPlace, OwnPlaces};
 use mapdb_facts::{RecordId, Space};
-use mapdb_fpage::{LEAST_ORDER, PAGE_LIMIT, TOP_ORDER};
-use std::collections::BTreeSet;
-use std::ops::Bound;
+use std::alloc::{AllocError, Global};
+use std::collections::HashMap;
 
 /// Who has a place listed.
-#[derive(Clone, Copy, Debug, PartialEq, Eq, PartialOrd, Ord)]
+#[derive(Clone, Copy, Debug, PartialEq, Eq, Hash)]
 pub enum Owner {
     /// A record, the sources of its children.
     Record(RecordId),
@@ -20,7 +23,7 @@ pub enum Owner {
 }
 
 /// A place of an owner, and the record that stands for it.
-#[derive(Clone, Copy, Debug, PartialEq, Eq, PartialOrd, Ord)]
+#[derive(Clone, Copy, Debug, PartialEq, Eq)]
 pub struct Listed {
     /// Whose place it is.
     pub owner: Owner,
@@ -32,135 +35,124 @@ pub struct Listed {
     pub id: RecordId,
 }
 
-impl Owner {
-    /// Whether both are one owner.
-    pub fn is(self, other: Owner) -> bool
-        ensures { result ≡ same_owner self other }
-    {
-        match (self, other) {
-            (Owner::Record(a), Owner::Record(b)) => a.is(b),
-            (Owner::Space(a), Owner::Space(b)) => a.is(b),
-            _ => false,
-        }
-    }
-}
-
-/// How many pages a place of this order has.
-fn pages_of_order(order: u8) -> u64
-    requires least { LEAST_ORDER ≤ order }
-    requires most { order ≤ TOP_ORDER }
-    ensures count { result ≡ 2 ^ (order - LEAST_ORDER) }
-    ensures some { 0 < result }
-    ensures limit { result ≤ PAGE_LIMIT }
-{
-    1 << (order - LEAST_ORDER)
-}
-
 impl Listed {
-    /// Whether a page of the place lies among the pages from `first` on up to before `end`.
-    fn meets(&self, first: u64, end: u64) -> bool
-        requires { IsAligned self.now }
-        ensures { result ≡ meets self.now first end }
+    /// The place alone, whoever owns it.
+    fn own_place(self) -> OwnPlace
+        ensures { result ≡ own_place self }
     {
-        let own_end = self.first + pages_of_order(self.order);
-        self.first.max(first) < own_end.min(end)
-    }
-}
-
-/// The least entry of its owner from one on.
-pub(crate) fn first_from(listed: &BTreeSet<Listed>, from: Listed) -> Option<Listed>
-    ensures { IsFirstInside listed.now from.owner (Included from) result }
-{
-    match listed
-        .range((Bound::Included(&from), Bound::Unbounded))
-        .next()
-    {
-        Some(entry) if entry.owner.is(from.owner) => Some(*entry),
-        _ => None,
-    }
-}
-
-/// The least entry of its owner above one.
-pub(crate) fn first_above(listed: &BTreeSet<Listed>, after: Listed) -> Option<Listed>
-    ensures { IsFirstInside listed.now after.owner (Excluded after) result }
-{
-    match listed
-        .range((Bound::Excluded(&after), Bound::Unbounded))
-        .next()
-    {
-        Some(entry) if entry.owner.is(after.owner) => Some(*entry),
-        _ => None,
-    }
-}
-
-/// The first entry of the owner above another, where there is one.
-fn begin(listed: &BTreeSet<Listed>, owner: Owner, after: Option<Listed>) -> Option<Listed>
-    requires { IfSome after (λ e. e.owner ≡ owner) }
-    ensures { (first end : ℕ) → HasReached listed.now owner first end after result }
-{
-    match after {
-        Some(entry) => first_above(listed, entry),
-        None => {
-            let least = Listed {
-                owner,
-                order: 0,
-                first: 0,
-                id: RecordId::ROOT,
-            };
-            first_from(listed, least)
+        OwnPlace {
+            order: self.order,
+            first: self.first,
+            id: self.id,
         }
     }
 }
 
-/// What comes next of an entry's owner that may meet the pages, where the entry itself does not: from its order's place that
-/// holds the first page on, or of the orders above.
-fn pass(listed: &BTreeSet<Listed>, entry: Listed, first: u64, end: u64) -> Option<Listed>
-    requires aligned { AllAligned listed.now }
-    requires held { contains listed_cmp listed.now entry ≡ true }
-    requires pages { first < end }
-    requires apart { meets entry first end ≡ false }
-    ensures reached { HasReached listed.now entry.owner first end (Some entry) result }
-    ensures fewer { orders_ahead first result < orders_ahead first (Some entry) }
+/// The place of an entry, where there is one.
+fn place_of(entry: Option<Listed>) -> Option<OwnPlace>
+    ensures { result ≡ option_map own_place entry }
 {
-    if entry.first >= end {
-        let above = Listed {
-            owner: entry.owner,
-            order: entry.order + 1,
-            first: 0,
-            id: RecordId::ROOT,
-        };
-        return first_from(listed, above);
+    match entry {
+        Some(entry) => Some(entry.own_place()),
+        None => None,
     }
-    let from = Listed {
-        owner: entry.owner,
-        order: entry.order,
-        first: first - first % pages_of_order(entry.order),
-        id: RecordId::ROOT,
-    };
-    first_from(listed, from)
 }
 
-/// The least entry of the owner, above another, that meets the pages from `first` on up to before `end`.
-pub(crate) fn next_meeting(
-    listed: &BTreeSet<Listed>,
-    owner: Owner,
-    first: u64,
-    end: u64,
-    after: Option<Listed>,
-) -> Option<Listed>
-    requires aligned { AllAligned listed.now }
-    requires owned { IfSome after (λ e. e.owner ≡ owner) }
-    ensures { IsNextMeeting listed.now owner first end after result }
+/// A place as the owner's, where there is one.
+fn listed_for(owner: Owner, place: Option<OwnPlace>) -> Option<Listed>
+    ensures { result ≡ option_map (listed_for owner) place }
 {
-    if first >= end {
-        return None;
+    match place {
+        Some(place) => Some(Listed {
+            owner,
+            order: place.order,
+            first: place.first,
+            id: place.id,
+        }),
+        None => None,
     }
-    let mut reached = begin(listed, owner, after);
-    'orders: while let Some(entry) = reached {
-        if entry.meets(first, end) {
-            return Some(entry);
+}
+
+/// Puts an entry among the places of its owner. An error where memory was wanted.
+fn put(
+    owners: &mut HashMap<Owner, OwnPlaces>,
+    alloc: Global,
+    entry: Listed,
+) -> Result<(), AllocError>
+    ensures { OnOk result ((e : Listed) → is_among owners.new.entries e
+        ≡ (is_at (listed_cmp entry) e || is_among owners.old.entries e)) }
+{
+    if let Some(own) = owners.get_mut(&entry.owner) {
+        return own.insert(alloc, entry.own_place());
+    }
+    let mut own = OwnPlaces::new(alloc);
+    own.insert(alloc, entry.own_place())?;
+    owners.insert(entry.owner, own)?;
+    Ok(())
+}
+
+/// The places of all owners, each owner's by themselves.
+#[derive(Drop)]
+pub struct Places {
+    own: HashMap<Owner, OwnPlaces>,
+    alloc: Global,
+}
+
+impl Places {
+    /// No places. It takes no memory.
+    pub(crate) fn new(alloc: Global) -> Places
+        ensures { (e : Listed) → is_listed result e ≡ false }
+    {
+        Places {
+            own: HashMap::new(alloc),
+            alloc,
         }
-        reached = pass(listed, entry, first, end);
     }
-    None
+
+    /// Lists one entry more. An error where memory was wanted.
+    pub(crate) fn insert(&mut self, entry: Listed) -> Result<(), AllocError>
+        ensures { OnOk result ((e : Listed) → is_listed self.new e
+            ≡ (is_at (listed_cmp entry) e || is_listed self.old e)) }
+    {
+        put(&mut self.own, self.alloc, entry)
+    }
+
+    /// The least entry of its owner from one on.
+    pub(crate) fn first_from(&self, from: Listed) -> Option<Listed>
+        ensures { IsFirstInside self.now from.owner (Included from) result }
+    {
+        match self.own.get(&from.owner) {
+            Some(own) => listed_for(from.owner, own.first_from(from.own_place())),
+            None => None,
+        }
+    }
+
+    /// The least entry of its owner above one.
+    pub(crate) fn first_above(&self, after: Listed) -> Option<Listed>
+        ensures { IsFirstInside self.now after.owner (Excluded after) result }
+    {
+        match self.own.get(&after.owner) {
+            Some(own) => listed_for(after.owner, own.first_above(after.own_place())),
+            None => None,
+        }
+    }
+
+    /// The least entry of the owner, above another, that meets the pages from `first` on up to
+    /// before `end`.
+    pub(crate) fn next_meeting(
+        &self,
+        owner: Owner,
+        first: u64,
+        end: u64,
+        after: Option<Listed>,
+    ) -> Option<Listed>
+        requires aligned { AllAligned self.now }
+        requires owned { IfSome after (λ e. e.owner ≡ owner) }
+        ensures { IsNextMeeting self.now owner first end after result }
+    {
+        match self.own.get(&owner) {
+            Some(own) => listed_for(owner, own.next_meeting(first, end, place_of(after))),
+            None => None,
+        }
+    }
 }

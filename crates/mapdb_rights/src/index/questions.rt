@@ -8,7 +8,8 @@ use mapdb_facts::{Facts, RecordId, Space};
 use std::alloc::AllocError;
 
 impl RightsIndex {
-    ghost use Rattle.std.specs.Prelude.{◌≡◌, ◌≤◌, ◌<◌, ℕ, Ok, None, false, true, IfOk, IfSome, IsSome};
+    ghost use Rattle.std.specs.Prelude.{◌≡◌, ◌≤◌, ◌<◌, ℕ, Ok, None, false, true, IfOk, IfSome};
+    ghost use Rattle.std.specs.Prelude.{IsSome};
     ghost use Rattle.mapdb_facts.specs.Facts.{records_of_facts, state_of_facts};
     ghost use Rattle.mapdb_fpage.specs.Bounds.{page_limit};
     ghost use Rattle.mapdb_rights.specs.Index.{KeepsUp, StandsFor};
@@ -16,8 +17,9 @@ impl RightsIndex {
     ghost use Rattle.mapdb_rights.specs.Right.{rights_at};
     ghost use Rattle.mapdb_facts.specs.State.{State};
 
-    /// The least record of the space above another name, or of all, that has a right at the page; in the first space the root
-    /// is one of them. The outer None where the index is absent. It takes no memory.
+    /// The least record of the space above another name, or of all, that has a right at the page;
+    /// in the first space the root is one of them. The outer None where the index is absent. It
+    /// takes no memory.
     pub fn live_at(
         &self,
         facts: &Facts,
@@ -36,8 +38,9 @@ impl RightsIndex {
         Some(live_after(&self.changes, &self.listed, facts, space, page, after))
     }
 
-    /// The names of all records of the space that have a right at the page, in ascending order; in the first space the root is
-    /// one of them. None where the index is absent. An error where memory was wanted for the list.
+    /// The names of all records of the space that have a right at the page, in ascending order; in
+    /// the first space the root is one of them. None where the index is absent. An error where
+    /// memory was wanted for the list.
     pub fn in_space(
         &self,
         facts: &Facts,
@@ -57,8 +60,9 @@ impl RightsIndex {
         Ok(Some(names))
     }
 
-    /// The end of pages, from one on, over which each record of the space, in the first space the root too, has equal rights,
-    /// and where it has some, a frame that rises by one with each page. None where the index is absent. It takes no memory.
+    /// The end of pages, from one on, over which each record of the space, in the first space the
+    /// root too, has equal rights, and where it has some, a frame that rises by one with each page.
+    /// None where the index is absent. It takes no memory.
     pub fn show_until(&self, facts: &Facts, space: Space, page: u64) -> Option<u64>
         requires page { page < page_limit }
         requires stands { KeepsUp self.now (state_of_facts facts.now) }
@@ -74,8 +78,8 @@ impl RightsIndex {
         Some(show_until(&self.changes, &self.listed, facts, space, page))
     }
 
-    /// The end of pages, from one on, over which a record has equal rights; a name that is not held has none. None where the
-    /// index is absent. It takes no memory.
+    /// The end of pages, from one on, over which a record has equal rights; a name that is not held
+    /// has none. None where the index is absent. It takes no memory.
     pub fn unchanged_until(&self, id: RecordId, page: u64) -> Option<u64>
         requires page { page < page_limit }
         ensures absent { self.now.absent ≡ true → result ≡ None }
@@ -83,7 +87,8 @@ impl RightsIndex {
         ensures above { IfSome result (λ end. page < end) }
         ensures limit { IfSome result (λ end. end ≤ page_limit) }
         ensures same { (S : State) → StandsFor self.now S
-            → IfSome result (λ end. (q : ℕ) → page ≤ q → q < end → rights_at S id q ≡ rights_at S id page) }
+            → IfSome result (λ end. (q : ℕ) → page ≤ q → q < end
+            → rights_at S id q ≡ rights_at S id page) }
     {
         if self.absent {
             return None;

@@ -1,20 +1,20 @@
 //! Cached rights beside facts.
 
 use super::building::settle_all;
-use super::changes::{Change, Spot, cached_at, seen_at};
+use super::changes::{AllChanges, cached_at, seen_at};
 use super::following::{follow_cut, follow_end, follow_record};
-use super::places::Listed;
+use super::places::Places;
 use super::runs::{RightsRun, runs_of};
 use mapdb_facts::{Facts, Op, RecordId};
 use mapdb_fpage::Rights;
 use std::alloc::{AllocError, Global};
-use std::collections::{BTreeMap, BTreeSet};
 
-/// The rights of records at pages, kept beside the facts that they follow from. Want of memory makes it absent.
+/// The rights of records at pages, kept beside the facts that they follow from. Want of memory
+/// makes it absent.
 #[derive(Drop)]
 pub struct RightsIndex {
-    pub(crate) changes: BTreeMap<Spot, Change>,
-    pub(crate) listed: BTreeSet<Listed>,
+    pub(crate) changes: AllChanges,
+    pub(crate) listed: Places,
     pub(crate) absent: bool,
     pub(crate) alloc: Global,
 }
@@ -47,8 +47,8 @@ impl RightsIndex {
         ensures { StandsFor result nothing }
     {
         RightsIndex {
-            changes: BTreeMap::new(alloc),
-            listed: BTreeSet::new(alloc),
+            changes: AllChanges::new(alloc),
+            listed: Places::new(alloc),
             absent: false,
             alloc,
         }
@@ -58,8 +58,8 @@ impl RightsIndex {
     pub fn build(alloc: Global, facts: &Facts) -> Result<RightsIndex, AllocError>
         ensures { IfOk result (λ index. StandsFor index (state_of_facts facts.now)) }
     {
-        let mut changes = BTreeMap::new(alloc);
-        let mut listed = BTreeSet::new(alloc);
+        let mut changes = AllChanges::new(alloc);
+        let mut listed = Places::new(alloc);
         settle_all(&mut changes, &mut listed, alloc, facts)?;
         Ok(RightsIndex {
             changes,
@@ -101,12 +101,15 @@ impl RightsIndex {
         }
     }
 
-    /// Follows an operation that the facts have by now: they say what they said before, and this. An error where memory was
-    /// wanted: the index is absent then, and keeps nothing. An absent index stays as it is, without an error.
+    /// Follows an operation that the facts have by now: they say what they said before, and this.
+    /// An error where memory was wanted: the index is absent then, and keeps nothing. An absent
+    /// index stays as it is, without an error.
     pub fn added(&mut self, facts: &Facts, op: &Op) -> Result<(), AllocError>
         requires formed { is_formed op.now ≡ true }
-        requires stood { (self.old.absent ≡ true) ⊎ StoodBefore self.old op.now (state_of_facts facts.now) }
-        ensures ok { OnOk result (self.old.absent ≡ false → StandsFor self.new (state_of_facts facts.now)) }
+        requires stood { (self.old.absent ≡ true)
+            ⊎ StoodBefore self.old op.now (state_of_facts facts.now) }
+        ensures ok { OnOk result (self.old.absent ≡ false
+            → StandsFor self.new (state_of_facts facts.now)) }
         ensures memory { OnErr result (self.new.absent ≡ true) }
         ensures absent { self.old.absent ≡ true → (result ≡ Ok tt) × (self.new ≡ self.old) }
     {
@@ -116,15 +119,16 @@ impl RightsIndex {
         match self.follow(facts, op) {
             Ok(()) => Ok(()),
             Err(fault) => {
-                self.changes = BTreeMap::new(self.alloc);
-                self.listed = BTreeSet::new(self.alloc);
+                self.changes = AllChanges::new(self.alloc);
+                self.listed = Places::new(self.alloc);
                 self.absent = true;
                 Err(fault)
             }
         }
     }
 
-    /// The rights of a record at a page, none for a name that is not held. None where the index is absent.
+    /// The rights of a record at a page, none for a name that is not held. None where the index is
+    /// absent.
     pub fn right_at(&self, id: RecordId, page: u64) -> Option<Rights>
         ensures absent { self.now.absent ≡ true → result ≡ None }
         ensures rights { (S : State) → StandsFor self.now S → result ≡ Some (rights_at S id page) }
@@ -136,8 +140,8 @@ impl RightsIndex {
         }
     }
 
-    /// What a record has at a page, its frame and its rights: no pair where it has no right there, or is not held. None
-    /// where the index is absent.
+    /// What a record has at a page, its frame and its rights: no pair where it has no right there,
+    /// or is not held. None where the index is absent.
     pub fn pair_at(&self, id: RecordId, page: u64) -> Option<Option<(u64, Rights)>>
         ensures absent { self.now.absent ≡ true → result ≡ None }
         ensures pair { (S : State) → StandsFor self.now S → result ≡ Some (pair_at S id page) }
@@ -152,8 +156,8 @@ impl RightsIndex {
         Some(Some((change.frame(page), change.rights)))
     }
 
-    /// The maximal runs of pages over which a record has equal rights, and not none, in ascending order. None where the index
-    /// is absent. An error where memory was wanted for the list.
+    /// The maximal runs of pages over which a record has equal rights, and not none, in ascending
+    /// order. None where the index is absent. An error where memory was wanted for the list.
     pub fn runs(&self, id: RecordId) -> Result<Option<Vec<RightsRun>>, AllocError>
         ensures absent { self.now.absent ≡ true → result ≡ Ok None }
         ensures there { self.now.absent ≡ false → IfOk result (λ runs. IsSome runs) }

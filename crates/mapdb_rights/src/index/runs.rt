@@ -6,11 +6,10 @@ ghost use Rattle.mapdb_facts.specs.Adding.{same_rights};
 ghost use Rattle.mapdb_rights.specs.Changes.{cached_in};
 ghost use Rattle.mapdb_rights.specs.RightsRuns.{ComesFirst, runs_behind};
 
-use super::changes::{Change, Spot, cached_at, unchanged_until};
+use super::changes::{AllChanges, cached_at, unchanged_until};
 use mapdb_facts::RecordId;
 use mapdb_fpage::{PAGE_LIMIT, Rights};
 use std::alloc::{AllocError, Global};
-use std::collections::BTreeMap;
 
 /// Pages of a record, one behind the other, over which it has the same rights, and not none.
 #[derive(Clone, Copy, Debug, PartialEq, Eq)]
@@ -24,12 +23,13 @@ pub struct RightsRun {
 }
 
 /// The first page from one on where the record has some right.
-fn run_start(changes: &BTreeMap<Spot, Change>, id: RecordId, page: u64) -> Option<u64>
-    ensures none { IfNone result (runs_behind (cached_in changes.now.entries id) page ≡ []) }
+fn run_start(changes: &AllChanges, id: RecordId, page: u64) -> Option<u64>
+    ensures none { IfNone result (runs_behind (cached_in changes.now.own.entries id) page ≡ []) }
     ensures limit { IfSome result (λ start. start < PAGE_LIMIT) }
-    ensures some { IfSome result (λ start. is_empty (cached_in changes.now.entries id start) ≡ false) }
-    ensures behind { IfSome result (λ start. runs_behind (cached_in changes.now.entries id) page
-        ≡ runs_behind (cached_in changes.now.entries id) start) }
+    ensures some { IfSome result (λ start. is_empty (cached_in changes.now.own.entries id start)
+        ≡ false) }
+    ensures behind { IfSome result (λ start. runs_behind (cached_in changes.now.own.entries id) page
+        ≡ runs_behind (cached_in changes.now.own.entries id) start) }
 {
     let mut start = page;
     'pages: while start < PAGE_LIMIT {
@@ -42,14 +42,15 @@ fn run_start(changes: &BTreeMap<Spot, Change>, id: RecordId, page: u64) -> Optio
 }
 
 /// The end of the pages from one on where the record has these same rights.
-fn run_end(changes: &BTreeMap<Spot, Change>, id: RecordId, start: u64, rights: Rights) -> u64
+fn run_end(changes: &AllChanges, id: RecordId, start: u64, rights: Rights) -> u64
     requires within { start < PAGE_LIMIT }
-    requires here { rights ≡ cached_in changes.now.entries id start }
+    requires here { rights ≡ cached_in changes.now.own.entries id start }
     ensures above { start < result }
     ensures limit { result ≤ PAGE_LIMIT }
-    ensures same { (q : ℕ) → start ≤ q → q < result → cached_in changes.now.entries id q ≡ rights }
+    ensures same { (q : ℕ) → start ≤ q → q < result
+        → cached_in changes.now.own.entries id q ≡ rights }
     ensures other { result < PAGE_LIMIT
-        → same_rights (cached_in changes.now.entries id result) rights ≡ false }
+        → same_rights (cached_in changes.now.own.entries id result) rights ≡ false }
 {
     let mut end = unchanged_until(changes, id, start);
     'pages: while end < PAGE_LIMIT {
@@ -62,8 +63,8 @@ fn run_end(changes: &BTreeMap<Spot, Change>, id: RecordId, start: u64, rights: R
 }
 
 /// The first run from a page on.
-fn first_run(changes: &BTreeMap<Spot, Change>, id: RecordId, page: u64) -> Option<RightsRun>
-    ensures first { ComesFirst (cached_in changes.now.entries id) page result }
+fn first_run(changes: &AllChanges, id: RecordId, page: u64) -> Option<RightsRun>
+    ensures first { ComesFirst (cached_in changes.now.own.entries id) page result }
     ensures limit { IfSome result (λ run. run.first_page + run.page_count ≤ PAGE_LIMIT) }
 {
     let first_page = run_start(changes, id, page)?;
@@ -78,11 +79,12 @@ fn first_run(changes: &BTreeMap<Spot, Change>, id: RecordId, page: u64) -> Optio
 
 /// All runs of a record, in ascending order.
 pub(crate) fn runs_of(
-    changes: &BTreeMap<Spot, Change>,
+    changes: &AllChanges,
     alloc: Global,
     id: RecordId,
 ) -> Result<Vec<RightsRun>, AllocError>
-    ensures { IfOk result (λ runs. runs.items ≡ runs_behind (cached_in changes.now.entries id) 0) }
+    ensures { IfOk result (λ runs. runs.items
+        ≡ runs_behind (cached_in changes.now.own.entries id) 0) }
 {
     let mut runs = Vec::new(alloc);
     let mut page = 0;

@@ -8,19 +8,18 @@ ghost use Rattle.mapdb_rights.specs.Following.{Stands};
 ghost use Rattle.mapdb_rights.specs.Listing.{meets};
 ghost use Rattle.mapdb_rights.specs.Live.{ShowUntil};
 
-use super::changes::{Change, Spot, unchanged_until};
-use super::places::{Listed, Owner, next_meeting};
+use super::changes::{AllChanges, unchanged_until};
+use super::places::{Listed, Owner, Places};
 use mapdb_facts::{Facts, RecordId, Space};
 use mapdb_fpage::PAGE_LIMIT;
-use std::collections::{BTreeMap, BTreeSet};
 
 /// How far the root's rights go on, where it is of the space.
-fn root_until(changes: &BTreeMap<Spot, Change>, space: Space, page: u64) -> u64
+fn root_until(changes: &AllChanges, space: Space, page: u64) -> u64
     requires { page < PAGE_LIMIT }
     ensures above { page < result }
     ensures limit { result ≤ PAGE_LIMIT }
     ensures same { is_first_space space ≡ true → (q : ℕ) → page ≤ q → q < result
-        → cached_in changes.now.entries root q ≡ cached_in changes.now.entries root page }
+        → cached_in changes.now.own.entries root q ≡ cached_in changes.now.own.entries root page }
 {
     if space.is_first() {
         unchanged_until(changes, RecordId::ROOT, page)
@@ -29,13 +28,14 @@ fn root_until(changes: &BTreeMap<Spot, Change>, space: Space, page: u64) -> u64
     }
 }
 
-/// How far an entry lets the pages go on: up to where it begins, if that is behind the page, else up to the next change of its
-/// record's rights.
-fn entry_until(changes: &BTreeMap<Spot, Change>, entry: Listed, page: u64) -> u64
+/// How far an entry lets the pages go on: up to where it begins, if that is behind the page, else
+/// up to the next change of its record's rights.
+fn entry_until(changes: &AllChanges, entry: Listed, page: u64) -> u64
     requires { page < PAGE_LIMIT }
     ensures above { page < result }
     ensures same { meets entry page result ≡ true → (q : ℕ) → page ≤ q → q < result
-        → cached_in changes.now.entries entry.id q ≡ cached_in changes.now.entries entry.id page }
+        → cached_in changes.now.own.entries entry.id q
+        ≡ cached_in changes.now.own.entries entry.id page }
 {
     if entry.first > page {
         entry.first
@@ -44,11 +44,12 @@ fn entry_until(changes: &BTreeMap<Spot, Change>, entry: Listed, page: u64) -> u6
     }
 }
 
-/// The end of pages, from one on, over which each record of the space, in the first space the root too, has equal rights,
-/// and where it has some, a frame that rises by one with each page. It takes no memory.
+/// The end of pages, from one on, over which each record of the space, in the first space the root
+/// too, has equal rights, and where it has some, a frame that rises by one with each page. It takes
+/// no memory.
 pub(crate) fn show_until(
-    changes: &BTreeMap<Spot, Change>,
-    listed: &BTreeSet<Listed>,
+    changes: &AllChanges,
+    listed: &Places,
     facts: &Facts,
     space: Space,
     page: u64,
@@ -63,7 +64,7 @@ pub(crate) fn show_until(
     let owner = Owner::Space(space);
     let mut end = root_until(changes, space, page);
     let mut passed = None;
-    'entries: while let Some(entry) = next_meeting(listed, owner, page, end, passed) {
+    'entries: while let Some(entry) = listed.next_meeting(owner, page, end, passed) {
         end = end.min(entry_until(changes, entry, page));
         passed = Some(entry);
     }

@@ -6,7 +6,8 @@ ghost use Rattle.mapdb_facts.specs.Names.{number_limit};
 
 use mapdb_facts::RecordId;
 
-/// Pages of a record, from the first up to before the end, whose cached rights may not follow from its parent's any more.
+/// Pages of a record, from the first up to before the end, whose cached rights may not follow from
+/// its parent's any more.
 #[derive(Clone, Copy, Debug)]
 pub struct Stale {
     /// The name of the record.

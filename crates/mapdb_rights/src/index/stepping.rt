@@ -7,11 +7,10 @@ ghost use Rattle.mapdb_facts.specs.Names.{is_root};
 ghost use Rattle.mapdb_rights.specs.Caching.{Cached, rights_from};
 ghost use Rattle.mapdb_rights.specs.Changes.{AreFrames, HasFrame, cached_in, change_at};
 
-use super::changes::{Change, Spot, seen_at, unchanged_until};
+use super::changes::{AllChanges, Change, seen_at, unchanged_until};
 use crate::sources::source_of;
 use mapdb_facts::{Facts, RecordId};
 use mapdb_fpage::{PAGE_LIMIT, Rights};
-use std::collections::BTreeMap;
 
 /// What the root has at the page.
 fn root_change(facts: &Facts, id: RecordId, page: u64) -> Change
@@ -28,16 +27,11 @@ fn root_change(facts: &Facts, id: RecordId, page: u64) -> Change
 }
 
 /// What a record has at a page, if its parent has at the source page what is cached.
-pub(crate) fn change_from(
-    changes: &BTreeMap<Spot, Change>,
-    facts: &Facts,
-    id: RecordId,
-    page: u64,
-) -> Change
+pub(crate) fn change_from(changes: &AllChanges, facts: &Facts, id: RecordId, page: u64) -> Change
     requires { page < PAGE_LIMIT }
     ensures rights { result.rights
-        ≡ rights_from (cached_in changes.now.entries) (state_of_facts facts.now) id page }
-    ensures frame { AreFrames (state_of_facts facts.now) changes.now.entries
+        ≡ rights_from (cached_in changes.now.own.entries) (state_of_facts facts.now) id page }
+    ensures frame { AreFrames (state_of_facts facts.now) changes.now.own.entries
         → is_empty result.rights ≡ false
         → HasFrame (state_of_facts facts.now) id page result.shift }
 {
@@ -59,24 +53,20 @@ pub(crate) fn change_from(
     }
 }
 
-/// The end of pages from one on over which one change stands, and over which what comes from the parent is the same.
-pub(crate) fn steady_end(
-    changes: &BTreeMap<Spot, Change>,
-    facts: &Facts,
-    id: RecordId,
-    page: u64,
-) -> u64
+/// The end of pages from one on over which one change stands, and over which what comes from the
+/// parent is the same.
+pub(crate) fn steady_end(changes: &AllChanges, facts: &Facts, id: RecordId, page: u64) -> u64
     requires { page < PAGE_LIMIT }
     ensures above { page < result }
     ensures limit { result ≤ PAGE_LIMIT }
-    ensures one { (q : ℕ) → page < q → q < result → change_at changes.now.entries id q ≡ None }
+    ensures one { (q : ℕ) → page < q → q < result → change_at changes.now.own.entries id q ≡ None }
     ensures kept { (q : ℕ) → page ≤ q → q < result
-        → cached_in changes.now.entries id q ≡ cached_in changes.now.entries id page }
+        → cached_in changes.now.own.entries id q ≡ cached_in changes.now.own.entries id page }
     ensures same { (q : ℕ) → page ≤ q → q < result
-        → rights_from (cached_in changes.now.entries) (state_of_facts facts.now) id q
-        ≡ rights_from (cached_in changes.now.entries) (state_of_facts facts.now) id page }
-    ensures frames { AreFrames (state_of_facts facts.now) changes.now.entries
-        → is_empty (rights_from (cached_in changes.now.entries) (state_of_facts facts.now)
+        → rights_from (cached_in changes.now.own.entries) (state_of_facts facts.now) id q
+        ≡ rights_from (cached_in changes.now.own.entries) (state_of_facts facts.now) id page }
+    ensures frames { AreFrames (state_of_facts facts.now) changes.now.own.entries
+        → is_empty (rights_from (cached_in changes.now.own.entries) (state_of_facts facts.now)
         id page) ≡ false
         → (shift : ℕ) → HasFrame (state_of_facts facts.now) id page shift
         → (q : ℕ) → page ≤ q → q < result → HasFrame (state_of_facts facts.now) id q shift }

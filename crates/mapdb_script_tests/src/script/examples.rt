@@ -6,10 +6,12 @@ use std::test::Fail;
 const FIRST_PATH: (&str, &str) = (
     "# One processor. Space 0 stands for physical memory, page for page.\n\
     processors 1\n\n\
-    # Space 0 sends the fpage at 10000 of 2^14 bytes, to read and write. The send base 8000 picks the part of space 1's\n\
+    # Space 0 sends the fpage at 10000 of 2^14 bytes, to read and write. The send base 8000 picks \
+    the part of space 1's\n\
     # receive window, 2^16 bytes from 40000 on: the pages go to 48000.\n\
     map 0 0 10000/14:rw- 8000 1 40000/16\n\n\
-    # Which frames are visible in space 1, with which rights? The last page lies behind the mapping.\n\
+    # Which frames are visible in space 1, with which rights? The last page lies behind the \
+    mapping.\n\
     rights 0 1 48000\n\
     rights 0 1 4b000\n\
     rights 0 1 4c000\n",
@@ -24,7 +26,8 @@ const REVOKE_A_GRANDCHILD: (&str, &str) = (
     processors 1\n\
     map 0 0 10000/12:rwx 0 1 40000/12\n\
     map 0 1 40000/12:rwx 0 2 80000/12\n\n\
-    # Space 0 takes the right to write from all that came from its page. It reaches space 2 through space 1.\n\
+    # Space 0 takes the right to write from all that came from its page. It reaches space 2 \
+    through space 1.\n\
     unmap 0 0 10000/12:-w- keep\n\
     rights 0 1 40000\n\
     rights 0 2 80000\n\n\
@@ -60,7 +63,8 @@ const EVERY_ORDER: (&str, &str) = (
     send 0 1 2\n\
     send 0 2 3\n\
     send 0 3 4\n\n\
-    # Processor 1 hears them in order, processor 2 the other way round. A child whose parent has not come has no rights yet.\n\
+    # Processor 1 hears them in order, processor 2 the other way round. A child whose parent has \
+    not come has no rights yet.\n\
     deliver 0 1\n\
     deliver 1 1\n\
     deliver 2 1\n\
@@ -115,12 +119,14 @@ const UNSEEN_CHILD: (&str, &str) = (
     deliver 0 1\n\n\
     # At processor 1 it maps the page on to space 2. Processor 0 has not heard of that.\n\
     map 1 1 40000/12:rw- 0 2 80000/12\n\n\
-    # At processor 0 space 1 takes the right to write from what came from it: the copy knows of no child, so nothing is issued,\n\
+    # At processor 0 space 1 takes the right to write from what came from it: the copy knows of \
+    no child, so nothing is issued,\n\
     # and the child keeps the right.\n\
     unmap 0 1 40000/12:-w- keep\n\
     merge 1 0\n\
     rights 1 2 80000\n\n\
-    # With flush space 1 loses the right itself. What comes from it cannot have what it lacks, whether processor 0 knew of it\n\
+    # With flush space 1 loses the right itself. What comes from it cannot have what it lacks, \
+    whether processor 0 knew of it\n\
     # or not.\n\
     unmap 0 1 40000/12:-w- flush\n\
     merge 1 0\n\
@@ -144,10 +150,12 @@ const LOAD_PAGE_TABLES: (&str, &str) = (
     processors 1\n\
     map 0 0 10000/14:rw- 0 1 40000/14\n\
     map 0 1 40000/14:r-- 0 2 80000/14\n\n\
-    # A row is a run of pages of a space: the first page, how many there are, and the frame of the first one, which rises by\n\
+    # A row is a run of pages of a space: the first page, how many there are, and the frame of \
+    the first one, which rises by\n\
     # one from page to page, with the rights. All of space 0 is one run.\n\
     table 0\n\n\
-    # A revocation from the second page cuts space 1's run in three. Space 2 never had the right to write, so its run stays.\n\
+    # A revocation from the second page cuts space 1's run in three. Space 2 never had the right \
+    to write, so its run stays.\n\
     unmap 0 0 11000/12:-w- keep\n\
     table 0\n",
     "records 1.0\
@@ -173,7 +181,8 @@ const SAVE_AND_LOAD: (&str, &str) = (
     end 0 2\n\
     save 0\n\n\
     # The same as JSON with other spaces, and keys and lists in another order, is the same copy.\n\
-    load 1 {\"version\": 3, \"records\": [[1, 0, 1, 0, 64, 14, 0, 0, 16, 6]], \"ended\": [[2, 0]], \"cuts\": [[1, 0, 65, 12, 2]]}\n\
+    load 1 {\"version\": 3, \"records\": [[1, 0, 1, 0, 64, 14, 0, 0, 16, 6]], \"ended\": [[2, \
+    0]], \"cuts\": [[1, 0, 65, 12, 2]]}\n\
     same 0 1\n\
     save 1\n\n\
     # What a text says is looked at before any of it is taken.\n\
@@ -186,10 +195,12 @@ const SAVE_AND_LOAD: (&str, &str) = (
     "records 1.0\n\
     revocations 1\n\
     ended 2\n\
-    snapshot {\"cuts\":[[1,0,65,12,2]],\"ended\":[[2,0]],\"records\":[[1,0,1,0,64,14,0,0,16,6]],\"version\":3}\n\
+    snapshot {\"cuts\":[[1,0,65,12,2]],\"ended\":[[2,0]],\"records\":[[1,0,1,0,64,14,0,0,16,6]],\
+    \"version\":3}\n\
     taken 3\n\
     same yes\n\
-    snapshot {\"cuts\":[[1,0,65,12,2]],\"ended\":[[2,0]],\"records\":[[1,0,1,0,64,14,0,0,16,6]],\"version\":3}\n\
+    snapshot {\"cuts\":[[1,0,65,12,2]],\"ended\":[[2,0]],\"records\":[[1,0,1,0,64,14,0,0,16,6]],\
+    \"version\":3}\n\
     refused snapshot not-json\n\
     refused snapshot version\n\
     refused snapshot unaligned\n\

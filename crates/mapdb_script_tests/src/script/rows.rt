@@ -5,11 +5,11 @@ use std::alloc::Global;
 use std::process::Abort;
 use std::test::Fail;
 
-/// Runs a script of so many lines, none of them refused, which writes this.
-pub fn writes(
+/// Runs a script of so many lines, some of them refused, which writes this.
+pub fn writes_refused(
     rt: &impl Abort,
     alloc: Global,
-    lines: u64,
+    (lines, refused): (u64, u64),
     script: &str,
     output: &str,
 ) -> Result<(), Fail> {
@@ -22,11 +22,22 @@ pub fn writes(
         Summary {
             lines,
             commands: lines,
-            refused: 0
+            refused
         }
     );
     assert_eq!(rt; String::from_utf8(written)?.as_str(), output);
     Ok(())
+}
+
+/// Runs a script of so many lines, none of them refused, which writes this.
+pub fn writes(
+    rt: &impl Abort,
+    alloc: Global,
+    lines: u64,
+    script: &str,
+    output: &str,
+) -> Result<(), Fail> {
+    writes_refused(rt, alloc, (lines, 0), script, output)
 }
 
 /// Runs a script to its end, which writes this.
@@ -267,7 +278,10 @@ fn wide_addresses(rt: HostRuntime) -> Result<(), Fail> {
         records 2.0\n\
         rights 00013:rw-\n\
         tree not comparable\n\
-        table 3\nrow 0 00000 68719476736 00000:rwx\nrow 1 00000 68719476736 00000:rwx\nrow 2 fedcba984 4 00010:rw-\n\
+        table 3\n\
+        row 0 00000 68719476736 00000:rwx\n\
+        row 1 00000 68719476736 00000:rwx\n\
+        row 2 fedcba984 4 00010:rw-\n\
         taken 1\n\
         rights fffff:rwx\n\
         rights none\n\

@@ -1,5 +1,5 @@
-//! Scripts of great size: a full copy and what can be asked of it, many commands, the longest line, and the last line. No line
-//! wants memory there.
+//! Scripts of great size: a full copy and what can be asked of it, many commands, the longest line,
+//! and the last line. No line wants memory there.
 
 use super::rows::{gives, stops};
 use mapdb_script::LineFault;
@@ -46,8 +46,8 @@ fn closed(mut rows: String, end: &str) -> Result<String, AllocError> {
     Ok(rows)
 }
 
-/// The snapshot of a copy in which so many pages of space 1 are mapped, each to itself, every other one of the first `2 * cuts` lost
-/// the right to write, and so many spaces ended, from space 2 on.
+/// The snapshot of a copy in which so many pages of space 1 are mapped, each to itself, every other
+/// one of the first `2 * cuts` lost the right to write, and so many spaces ended, from space 2 on.
 fn snapshot(alloc: Global, records: u32, cuts: u32, ends: u32) -> Result<String, AllocError> {
     let mut text = String::new(alloc);
     text.push_str("{\"cuts\":[")?;
@@ -93,8 +93,8 @@ fn a_full_copy_is_told(rt: HostRuntime) -> Result<(), Fail> {
     gives(&rt, alloc, texts.script.as_str(), texts.output.as_str())
 }
 
-/// The snapshot of a chain as long as a copy can hold: each record of the last page is the parent of the next, each in a space of
-/// its own but two.
+/// The snapshot of a chain as long as a copy can hold: each record of the last page is the parent
+/// of the next, each in a space of its own but two.
 fn chain(alloc: Global) -> Result<String, AllocError> {
     let mut text = String::new(alloc);
     text.push_str("{\"cuts\":[],\"ended\":[],\"records\":[")?;

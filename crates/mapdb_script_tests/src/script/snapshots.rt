@@ -54,8 +54,8 @@ const REFUSED_BATCHES: (&str, &str) = (
     refused clash 2.1\n",
 );
 
-/// A script that loads texts of each version, and what it writes: the first version has its old bounds, and the first two have no
-/// versions of spaces.
+/// A script that loads texts of each version, and what it writes: the first version has its old
+/// bounds, and the first two have no versions of spaces.
 const EACH_VERSION: (&str, &str) = (
     "processors 1\n\
     load 0 {\"cuts\":[[1,0,1,33,7]],\"ended\":[],\"records\":[],\"version\":1}\n\
@@ -162,9 +162,11 @@ fn numbers_spent(rt: HostRuntime) -> Result<(), Fail> {
         &rt,
         rt.alloc(),
         "processors 1\n\
-        load 0 {\"cuts\":[],\"ended\":[],\"records\":[[1099511627775,0,1,32,12,0,0,16,4]],\"version\":1}\n\
+        load 0 {\"cuts\":[],\"ended\":[],\"records\":[[1099511627775,0,1,32,12,0,0,16,4]],\
+        \"version\":1}\n\
         map 0 0 30000/12:r-- 0 2 20000/12\n\
-        load 0 {\"cuts\":[],\"ended\":[],\"records\":[[1099511627776,0,1,32,12,0,0,16,4]],\"version\":1}\n\
+        load 0 {\"cuts\":[],\"ended\":[],\"records\":[[1099511627776,0,1,32,12,0,0,16,4]],\
+        \"version\":1}\n\
         rights 0 1 20000\n",
         "taken 1\n\
         refused numbers-spent\n\

@@ -7,7 +7,8 @@ use std::io::{ErrorKind, Read, Write};
 use std::test::Fail;
 
 const SCRIPT: &[u8] =
-    b"processors 1\r\n# a page\nmap 0 0 10000/12:rwx 1000 1 all\n\nrights 0 1 1000\nrights 2 1 1000";
+    b"processors 1\r\n# a page\nmap 0 0 10000/12:rwx 1000 1 all\n\nrights 0 1 1000\nrights 2 1 \
+    1000";
 
 const OUTPUT: &[u8] = b"records 1.0\nrights 00010:rwx\nrefused no-processor\n";
 

@@ -18,7 +18,12 @@ fn table_of_one_page_of_four(rt: HostRuntime) -> Result<(), Fail> {
         "records 1.0\n\
         records 2.0\n\
         revocations 2\n\
-        table 5\nrow 0 00000 68719476736 00000:rwx\nrow 1 00040 1 00010:rwx\nrow 1 00042 2 00012:rwx\nrow 2 00080 1 00010:rwx\nrow 2 00082 2 00012:rwx\n",
+        table 5\n\
+        row 0 00000 68719476736 00000:rwx\n\
+        row 1 00040 1 00010:rwx\n\
+        row 1 00042 2 00012:rwx\n\
+        row 2 00080 1 00010:rwx\n\
+        row 2 00082 2 00012:rwx\n",
     )
 }
 

@@ -1,35 +1,9 @@
 //! Scripts that ask the sequential tree, and what they write.
 
-use super::rows::{stops, writes};
+use super::rows::{stops, writes, writes_refused};
 use mapdb_facts::Space;
-use mapdb_script::{FromRead, Line, LineFault, Summary, ToWrite, parse_line, run};
-use std::alloc::Global;
-use std::process::Abort;
+use mapdb_script::{Line, LineFault, parse_line};
 use std::test::Fail;
-
-/// Runs a script with one refused line, which writes this.
-fn writes_refused(
-    rt: &impl Abort,
-    alloc: Global,
-    lines: u64,
-    script: &str,
-    output: &str,
-) -> Result<(), Fail> {
-    let mut written = Vec::new(alloc);
-    let mut reader = FromRead::new(script.as_bytes());
-    let mut writer = ToWrite::new(&mut written);
-    let summary = run(alloc, &mut reader, &mut writer)?;
-    assert_eq!(rt;
-        summary,
-        Summary {
-            lines,
-            commands: lines,
-            refused: 1
-        }
-    );
-    assert_eq!(rt; String::from_utf8(written)?.as_str(), output);
-    Ok(())
-}
 
 #[test]
 fn tree_lines(rt: HostRuntime) {
@@ -187,7 +161,7 @@ fn tree_after_a_refused_delivery(rt: HostRuntime) -> Result<(), Fail> {
     writes_refused(
         &rt,
         rt.alloc(),
-        3,
+        (3, 1),
         "processors 1\n\
         deliver 0 0\n\
         tree 0 1000\n",
@@ -201,7 +175,7 @@ fn tree_of_accepted_commands(rt: HostRuntime) -> Result<(), Fail> {
     writes_refused(
         &rt,
         rt.alloc(),
-        7,
+        (7, 1),
         "processors 2\n\
         words 0 0 8008 100c6 1 200c0\n\
         map 1 0 10000/12:rwx 0 2 30000/12\n\

@@ -8,7 +8,7 @@ use Rattle.mapdb_exchange.specs.declared.reports.Part.{Part}
 use Rattle.mapdb_lines.specs.declared.fault.ScriptFault.{ScriptFault}
 use Rattle.mapdb_lines.specs.declared.fault.ScriptFault.TheVariants.{Line}
 use Rattle.mapdb_lines.proofs.BlockLemmas.{appends-none}
-use Rattle.mapdb_script.specs.Run.{IsOver}
+use Rattle.mapdb_script.specs.Run.{HasEnded}
 use Rattle.mapdb_script.specs.Threading.{TellsScripts}
 use Rattle.l4map.specs.Threaded.{IsWritten, report_text}
 use Rattle.l4map.proofs.ReportLemmas.{fault_told, report_told}
@@ -19,7 +19,7 @@ pub returns-in_err-write_fault-in-Err-Line-clause-told :
 returns-in_err-write_fault-in-Err-Line-clause-told g c =
     let p = err_from_is_err_and c.from_residual.result c.from_residual.ensures.1 in
     let read = c.in-Err-Line.ensures.told in
-    let over = IsOver (g.R.Source.has_ended c.thread_scripts.new.reader) (g.R.Source.left c.thread_scripts.new.reader) in
+    let over = HasEnded (g.R.Source.has_ended c.thread_scripts.new.reader) (g.R.Source.left c.thread_scripts.new.reader) in
     let is_line : c.in-Err-Line.field-0 ≡ Line c.in-Err-Line.number c.in-Err-Line.fault = search rules in
     let line = subst (λ (f : ScriptFault). TellsScripts (Err f) read.0 over) is_line read.2 in
     let wrote = c.in_err-write_fault-in-Err-Line.ensures.told in (

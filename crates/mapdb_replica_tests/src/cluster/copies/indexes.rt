@@ -46,7 +46,8 @@ fn expect_live(rt: &impl Abort, facts: &Facts, space: Space, page: u64, names: &
     assert_eq!(rt; live_after(facts, space, page, after), None);
 }
 
-/// Asserts that the index of a copy is there, and names the records of a space with a right at a page.
+/// Asserts that the index of a copy is there, and names the records of a space with a right at a
+/// page.
 fn expect_in_space(rt: &impl Abort, copy: &Replica, space: Space, page: u64) {
     let facts = copy.facts();
     let index = copy.index();

@@ -74,7 +74,8 @@ fn remap_after_unmap(rt: HostRuntime) {
     expect_pages(&rt, &copy, &[(2, 0x30, Some((0x50, 4)))]);
 }
 
-/// Copy 1 takes a map of copy 0 and maps on from there, while copy 0 unmaps. Then copy 0 takes what copy 1 holds.
+/// Copy 1 takes a map of copy 0 and maps on from there, while copy 0 unmaps. Then copy 0 takes what
+/// copy 1 holds.
 fn with_unseen_child(
     rt: &impl Abort,
     copy: &mut Replica,

@@ -152,7 +152,8 @@ fn first_space_does_not_end(rt: HostRuntime) {
     expect(&rt, copy.own_len(), 0);
 }
 
-/// Revocations from records that are not held, which leave room for one operation beside those of `two_parents`.
+/// Revocations from records that are not held, which leave room for one operation beside those of
+/// `two_parents`.
 fn all_but_one(alloc: Global) -> Result<Vec<Op>, Fail> {
     let mut others = Vec::new(alloc);
     for number in 10..MOST_OPERATIONS as u64 + 5 {

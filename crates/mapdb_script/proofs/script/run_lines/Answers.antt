@@ -1,6 +1,6 @@
 use Rattle.std.proofs.Common.{◌++◌, ◌∙◌, [], refl, ap, ℕ, List, arith, inl, inr}
 use Rattle.std.proofs.lemmas.Result.{err_from_is_err_and}
-use Rattle.mapdb_script.specs.States.{state_of}
+use Rattle.mapdb_script.specs.States.{script_state}
 use Rattle.mapdb_lines.specs.Reading.{ahead_of, line_of}
 use Rattle.mapdb_lines.specs.Blocks.{waiting}
 use Rattle.mapdb_lines.proofs.BlockLemmas.{passes-none, passes-on, passes-then}
@@ -26,7 +26,7 @@ returns-in_err-progress-clause-told g c =
       so_far.1,
       Consumes-grow _ _ _ so_far.0 (ahead_of c.loop-engine.reading) read.0 so_far.2 read.1,
       passed,
-      rw (p.1, p.2) (tells_unread c.in_err-progress.field-0.0 so_far.0 so_far.1 bytes (state_of c.loop-engine.engine) _ so_far.4),
+      rw (p.1, p.2) (tells_unread c.in_err-progress.field-0.0 so_far.0 so_far.1 bytes (script_state c.loop-engine.engine) _ so_far.4),
     )
 
 pub returns-in-Nothing-clause-told : goal.returns-in-Nothing-clause-told
@@ -40,7 +40,7 @@ returns-in-Nothing-clause-told g c =
       so_far.1,
       Consumes-grow _ _ _ so_far.0 (ahead_of c.loop-engine.reading) read.0 so_far.2 read.1,
       passed,
-      rw c.summary.ensures (tells_nothing so_far.0 so_far.1 bytes (state_of c.loop-engine.engine) _ so_far.4 reads.0 (c.in_ok-progress.ensures.ended (inr c.in-Nothing.is), c.in_ok-progress.ensures.over (inr c.in-Nothing.is))),
+      rw c.summary.ensures (tells_nothing so_far.0 so_far.1 bytes (script_state c.loop-engine.engine) _ so_far.4 reads.0 (c.in_ok-progress.ensures.ended (inr c.in-Nothing.is), c.in_ok-progress.ensures.over (inr c.in-Nothing.is))),
     )
 
 pub returns-in_err-respond-clause-told : goal.returns-in_err-respond-clause-told
@@ -55,7 +55,7 @@ returns-in_err-respond-clause-told g c =
       so_far.1 ++ told.0,
       Consumes-grow _ _ _ so_far.0 (ahead_of c.loop-engine.reading) read.0 so_far.2 read.1,
       passes-then (g.W.Sink.written c.args.writer.now) (g.W.Sink.written c.flush_before_read.new.writer) (g.W.Sink.written c.respond.new.writer) (waiting c.args.block.now) (waiting c.flush_before_read.new.block) (waiting c.respond.new.block) so_far.1 told.0 passed told.1,
-      rw (p.1, p.2) (tells_stopped (Unit {0}) c.in_err-respond.field-0.0 so_far.0 so_far.1 bytes (line_of c.advance.new.self) (ahead_of c.advance.new.self) told.0 c.in_ok-progress.progress (state_of c.loop-engine.engine) (state_of c.respond.new.engine) _
+      rw (p.1, p.2) (tells_stopped (Unit {0}) c.in_err-respond.field-0.0 so_far.0 so_far.1 bytes (line_of c.advance.new.self) (ahead_of c.advance.new.self) told.0 c.in_ok-progress.progress (script_state c.loop-engine.engine) (script_state c.respond.new.engine) _
           so_far.4 read.2.0 read.2.1 c.in_default.not-Nothing (λ e. (c.in_ok-progress.ensures.ended (inl e), c.in_ok-progress.ensures.over (inl e))) told.2),
     )
 
@@ -71,15 +71,15 @@ returns-in-Last-clause-told g c =
       so_far.1 ++ told.0,
       Consumes-grow _ _ _ so_far.0 (ahead_of c.loop-engine.reading) read.0 so_far.2 read.1,
       passes-then (g.W.Sink.written c.args.writer.now) (g.W.Sink.written c.flush_before_read.new.writer) (g.W.Sink.written c.respond.new.writer) (waiting c.args.block.now) (waiting c.flush_before_read.new.block) (waiting c.respond.new.block) so_far.1 told.0 passed told.1,
-      rw c.summary-in-Last.ensures (tells_last so_far.0 so_far.1 bytes (line_of c.advance.new.self) (ahead_of c.advance.new.self) told.0 (state_of c.loop-engine.engine) (state_of c.respond.new.engine) _
+      rw c.summary-in-Last.ensures (tells_last so_far.0 so_far.1 bytes (line_of c.advance.new.self) (ahead_of c.advance.new.self) told.0 (script_state c.loop-engine.engine) (script_state c.respond.new.engine) _
           so_far.4 reads (c.in_ok-progress.ensures.ended (inl c.in-Last.is), c.in_ok-progress.ensures.over (inl c.in-Last.is)) told.2),
     )
 
 pub loop-engine-smaller : goal.loop-engine-smaller
 loop-engine-smaller g c =
     let told = c.in_ok-respond.ensures.told in
-    let old = state_of c.loop-engine.engine in
-    let new = state_of c.respond.new.engine in
+    let old = script_state c.loop-engine.engine in
+    let new = script_state c.respond.new.engine in
     falls_by_line old.counts.lines new.counts.lines (turn_lines old new _ told.0 told.2) (turn_few old new _ told.0 told.2)
 
 pub loop-engine-preserved : goal.loop-engine-preserved
@@ -87,8 +87,8 @@ loop-engine-preserved g c =
     let so_far = c.loop-engine.invariant.so_far in
     let passed = passes-on (g.W.Sink.written c.args.writer.now) (g.W.Sink.written c.loop-engine.writer) (g.W.Sink.written c.flush_before_read.new.writer) (waiting c.args.block.now) (waiting c.loop-engine.block) (waiting c.flush_before_read.new.block) so_far.1 so_far.3 c.in_ok-flush_before_read.ensures.told in
     let read = c.in_ok-progress.ensures.bytes in
-    let old = state_of c.loop-engine.engine in
-    let new = state_of c.respond.new.engine in
+    let old = script_state c.loop-engine.engine in
+    let new = script_state c.respond.new.engine in
     let bytes : List ℕ = ahead_of c.loop-engine.reading ++ read.0 in
     let told = rw c.line.ensures at c.in_ok-respond.ensures.told in
     let next = next_line so_far.0 so_far.1 bytes (line_of c.advance.new.self) (ahead_of c.advance.new.self) told.0 c.in_ok-progress.progress old new so_far.4 read.2.0 c.in_default.not-Nothing c.in_default-progress.not-Last told.2 in
@@ -114,5 +114,5 @@ returns-in_err-flush_before_read-clause-told g c =
       so_far.1,
       so_far.2,
       passed,
-      rw (p.1, p.2) (tells_unwritten c.in_err-flush_before_read.field-0.0 so_far.0 so_far.1 (ahead_of c.loop-engine.reading) (state_of c.loop-engine.engine) _ so_far.4 c.in_err-flush_before_read.ensures.write.0),
+      rw (p.1, p.2) (tells_unwritten c.in_err-flush_before_read.field-0.0 so_far.0 so_far.1 (ahead_of c.loop-engine.reading) (script_state c.loop-engine.engine) _ so_far.4 c.in_err-flush_before_read.ensures.write.0),
     )

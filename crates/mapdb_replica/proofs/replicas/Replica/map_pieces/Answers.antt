@@ -2,7 +2,7 @@ use Rattle.std.proofs.Common.{◌≡◌, ◌∙◌, ◌+◌, ◌<◌, List, ap, 
 use Rattle.mapdb_facts.specs.Records.{greatest_number, records_of}
 use Rattle.mapdb_facts.specs.declared.operations.Op.{Op}
 use Rattle.mapdb_replica.specs.Fitting.{held_pieces, piece_ops}
-use Rattle.mapdb_replica.specs.Issue.{numbered, rising_names}
+use Rattle.mapdb_replica.specs.Issue.{numbered_records, rising_names}
 use Rattle.mapdb_replica.specs.Replica.{with_issued}
 use Rattle.mapdb_replica.specs.declared.pieces.Piece.{Piece}
 use Rattle.mapdb_replica.proofs.Issuing.{length-numbered, stands-start}
@@ -27,5 +27,5 @@ returns-in-Err-clause-issues c =
     let some : c.in-Err.issued < length (held_pieces c.args.self.now c.args.sender c.args.carried.now) = subst (λ (ps : List Piece). c.in-Err.issued < length ps) c.requires.found c.in-Err.ensures.some in
     let count : length (piece_ops c.args.self.now c.args.sender c.args.carried.now c.args.receiver) ≡ length (held_pieces c.args.self.now c.args.sender c.args.carried.now) = length-numbered (greatest_number (records_of c.args.self.now.ops) + 1) c.args.self.now.processor c.args.receiver c.args.carried.now (held_pieces c.args.self.now c.args.sender c.args.carried.now) in (
       omega (arith, some, count),
-      c.in-Err.ensures.err ∙ ap (λ (ps : List Piece). with_issued c.args.self.now (take c.in-Err.issued (numbered (greatest_number (records_of c.args.self.now.ops) + 1) c.args.self.now.processor c.args.receiver c.args.carried.now ps))) c.requires.found,
+      c.in-Err.ensures.err ∙ ap (λ (ps : List Piece). with_issued c.args.self.now (take c.in-Err.issued (numbered_records (greatest_number (records_of c.args.self.now.ops) + 1) c.args.self.now.processor c.args.receiver c.args.carried.now ps))) c.requires.found,
     )

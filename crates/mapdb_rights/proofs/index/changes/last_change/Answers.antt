@@ -1,14 +1,15 @@
-use Rattle.std.proofs.Common.{arith}
-use Rattle.std.proofs.lemmas.Grind.{common_steps}
-use Rattle.mapdb_rights.proofs.Spots.{spot, spot_up_to}
+use Rattle.std.proofs.Common.{ℕ, ap, sym, subst, ◌∙◌}
+use Rattle.std.specs.Prelude.{Option}
+use Rattle.std.specs.Option.{option_copied}
+use Rattle.mapdb_rights.specs.declared.index.changes.Change.{Change}
+use Rattle.mapdb_rights.specs.OwnChanges.{IsLastUpTo}
+use Rattle.mapdb_rights.proofs.RecordChanges.{own_absent, own_found}
 use Rattle.mapdb_rights.proofs.index.changes.last_change.Goals as goal
 
-pub returns-in-Some-clause-last : goal.returns-in-Some-clause-last
-returns-in-Some-clause-last c q above up_to =
-    let h = (c.range.ensures.in_range tt).4 _ _ c.in-Some.ensures.steps (spot c.args.id q) in
-    grind (arith, common_steps, h)
+pub returns-in-Some : goal.returns-in-Some
+returns-in-Some c =
+    subst (λ (at : ℕ → Option Change). IsLastUpTo at c.args.page c.last.result)
+    (own_found c.args.changes.now.own.entries c.args.id c.in-Some.own.now (sym (ap option_copied c.in-Some.is) ∙ c.get.ensures.value)) c.last.ensures
 
-pub returns-in-None-clause-none : goal.returns-in-None-clause-none
-returns-in-None-clause-none c q up_to =
-    (c.range.ensures.in_range tt).5 c.in-None.ensures.steps.0 (spot c.args.id q)
-    (spot_up_to c.args.id 0 q (omega arith), spot_up_to c.args.id q c.args.page up_to)
+pub returns-in-None : goal.returns-in-None
+returns-in-None c q up_to = own_absent c.args.changes.now.own.entries c.args.id q (sym (ap option_copied c.in-None.is) ∙ c.get.ensures.value)

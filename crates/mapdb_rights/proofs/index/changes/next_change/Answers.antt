@@ -1,15 +1,16 @@
-use Rattle.std.proofs.Common.{arith}
-use Rattle.std.proofs.lemmas.Grind.{common_steps}
-use Rattle.mapdb_fpage.specs.Bounds.{page_limit}
-use Rattle.mapdb_rights.proofs.Spots.{spot, spot_before, spot_up_to}
+use Rattle.std.proofs.Common.{ℕ, ap, sym, subst, ◌∙◌}
+use Rattle.std.specs.Prelude.{Option}
+use Rattle.std.specs.Option.{option_copied}
+use Rattle.mapdb_rights.specs.declared.index.changes.Change.{Change}
+use Rattle.mapdb_rights.specs.OwnChanges.{IsNoneUntil}
+use Rattle.mapdb_rights.proofs.RecordChanges.{own_absent, own_found}
 use Rattle.mapdb_rights.proofs.index.changes.next_change.Goals as goal
 
 pub returns-in-Some-clause-none : goal.returns-in-Some-clause-none
-returns-in-Some-clause-none c q above below =
-    let h = (c.range.ensures.in_range tt).2 (spot c.args.id q) in
-    grind (arith, common_steps, h)
+returns-in-Some-clause-none c =
+    subst (λ (at : ℕ → Option Change). IsNoneUntil at c.args.page c.next.result)
+    (own_found c.args.changes.now.own.entries c.args.id c.in-Some.own.now (sym (ap option_copied c.in-Some.is) ∙ c.get.ensures.value)) c.next.ensures.none
 
 pub returns-in-None-clause-none : goal.returns-in-None-clause-none
-returns-in-None-clause-none c q above below =
-    (c.range.ensures.in_range tt).5 c.in-None.ensures.steps.0 (spot c.args.id q)
-    (spot_before c.args.id c.args.page q above, spot_up_to c.args.id q page_limit (omega arith))
+returns-in-None-clause-none c q above before =
+    own_absent c.args.changes.now.own.entries c.args.id q (sym (ap option_copied c.in-None.is) ∙ c.get.ensures.value)

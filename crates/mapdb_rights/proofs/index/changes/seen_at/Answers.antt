@@ -10,11 +10,11 @@ use Rattle.mapdb_rights.proofs.index.changes.seen_at.Goals as goal
 pub returns-in-Some : goal.returns-in-Some
 returns-in-Some c =
     let up_to : c.in-Some.field-0-0 ≤ c.args.page = c.in-Some.ensures.up_to in
-    sym (seen_stays c.args.changes.now.entries c.args.id c.in-Some.field-0-0 c.args.page up_to (omega arith) c.in-Some.ensures.last
-    ∙ seen_here c.args.changes.now.entries c.args.id c.in-Some.field-0-0 c.in-Some.change (omega arith) c.in-Some.ensures.here)
+    sym (seen_stays c.args.changes.now.own.entries c.args.id c.in-Some.field-0-0 c.args.page up_to (omega arith) c.in-Some.ensures.last
+    ∙ seen_here c.args.changes.now.own.entries c.args.id c.in-Some.field-0-0 c.in-Some.change (omega arith) c.in-Some.ensures.here)
 
 pub returns-in-None : goal.returns-in-None
 returns-in-None c =
     c.first_change.ensures
-    ∙ sym (cond-true (is_page c.args.page) (changed (change_at c.args.changes.now.entries c.args.id) (at_first c.args.id) c.args.page) beyond (lt-ltb c.args.page page_limit (omega arith))
-    ∙ changed-none (change_at c.args.changes.now.entries c.args.id) (at_first c.args.id) c.args.page c.in-None.ensures.none)
+    ∙ sym (cond-true (is_page c.args.page) (changed (change_at c.args.changes.now.own.entries c.args.id) (at_first c.args.id) c.args.page) beyond (lt-ltb c.args.page page_limit (omega arith))
+    ∙ changed-none (change_at c.args.changes.now.own.entries c.args.id) (at_first c.args.id) c.args.page c.in-None.ensures)

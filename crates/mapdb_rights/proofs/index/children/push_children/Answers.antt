@@ -1,6 +1,5 @@
 use Rattle.std.proofs.Common.{◌≡◌, ◌+◌, ap, subst, ◌∙◌, inl, inr}
 use Rattle.std.specs.Prelude.{Some}
-use Rattle.std.specs.BTreeSet.{btree_set_len}
 use Rattle.mapdb_facts.specs.Facts.{state_of_facts}
 use Rattle.mapdb_facts.specs.Names.{same_id}
 use Rattle.mapdb_facts.specs.State.{State}
@@ -8,7 +7,7 @@ use Rattle.mapdb_facts.specs.declared.names.RecordId.{RecordId}
 use Rattle.mapdb_facts.proofs.SameNames.{same_id_itself}
 use Rattle.mapdb_rights.specs.declared.index.places.Listed.{Listed}
 use Rattle.mapdb_rights.specs.declared.index.places.Owner.TheVariants as owners
-use Rattle.mapdb_rights.specs.Listing.{left_above, source_of}
+use Rattle.mapdb_rights.specs.Listing.{left_above, listed_len, source_of}
 use Rattle.mapdb_rights.specs.Pending.{IsPending, share, weight}
 use Rattle.mapdb_rights.proofs.Entries.{fewer_above}
 use Rattle.mapdb_rights.proofs.Sweeps.{counted_on, next_or_later, source_meets}
@@ -34,7 +33,7 @@ children-preserved c =
           ];
       counted = λ base some.
           counted_on (weight base c.children.stack.items) (weight base c.push_held.new.stack.items) (share base (c.args.parent.number + 1))
-          (left_above c.args.listed.now c.children.after) (left_above c.args.listed.now (Some c.in-Some.child)) (btree_set_len c.args.listed.now) (weight base c.args.stack.now.items)
+          (left_above c.args.listed.now c.children.after) (left_above c.args.listed.now (Some c.in-Some.child)) (listed_len c.args.listed.now) (weight base c.args.stack.now.items)
           (c.children.invariant.counted base some) (c.in_ok-push_held.ensures.weight base some)
           (fewer_above c.args.listed.now c.children.after c.in-Some.child c.in-Some.ensures.held c.in-Some.ensures.above);
     }

@@ -1,6 +1,5 @@
 use Rattle.std.proofs.Common.{◌≡◌, ◌≤◌, ◌<◌, ◌+◌, ◌*◌, ℕ, true}
 use Rattle.std.specs.Prelude.{◌⊎◌, IfSome}
-use Rattle.std.specs.BTreeSet.{btree_set_len}
 use Rattle.mapdb_fpage.specs.Place.{holds}
 use Rattle.mapdb_facts.specs.Facts.{state_of_facts}
 use Rattle.mapdb_facts.specs.Looking.{Holds}
@@ -9,7 +8,7 @@ use Rattle.mapdb_facts.specs.declared.names.RecordId.{RecordId}
 use Rattle.mapdb_facts.specs.declared.operations.Record.{Record}
 use Rattle.mapdb_rights.specs.Right.{source_page}
 use Rattle.mapdb_rights.specs.declared.index.places.Owner.TheVariants as owners
-use Rattle.mapdb_rights.specs.Listing.{IsListed, is_above, left_above, source_of}
+use Rattle.mapdb_rights.specs.Listing.{IsListed, is_above, left_above, listed_len, source_of}
 use Rattle.mapdb_rights.specs.Pending.{IsPending, share, weight}
 use Rattle.mapdb_rights.proofs.index.children.push_children.Given as goal
 
@@ -23,7 +22,7 @@ invariant-children l = record {
       → (is_above l.after (source_of r) ≡ true) ⊎ IsPending l.stack.items r.id page;
   counted : (base : ℕ) → 0 < base
       → weight base l.stack.items + left_above l.listed l.after * share base (l.parent.number + 1)
-      ≤ weight base l.fn.stack.items + btree_set_len l.listed * share base (l.parent.number + 1);
+      ≤ weight base l.fn.stack.items + listed_len l.listed * share base (l.parent.number + 1);
 }
 
 abbrev pub decreases-children : goal.decreases-children

@@ -13,8 +13,8 @@ use Rattle.mapdb_rights.proofs.index.children.push_space.Given as goal
 -- each record of the space comes later, or its pages are stale
 abbrev pub invariant-places : goal.invariant-places
 invariant-places l = record {
-  owned : IfSome l.after (λ e. e.owner ≡ owners.Space l.space);
-  stale : (r : Record) → Holds (state_of_facts l.facts) r → IsListed l.listed r → same_space l.space r.space ≡ true → (page : ℕ) → holds r.place page ≡ true
+  owned : IfSome l.after (λ e. e.owner ≡ owners.Space l.fn.space);
+  stale : (r : Record) → Holds (state_of_facts l.facts) r → IsListed l.listed r → same_space l.fn.space r.space ≡ true → (page : ℕ) → holds r.place page ≡ true
       → (is_above l.after (place_of r) ≡ true) ⊎ IsPending l.stack.items r.id page;
 }
 

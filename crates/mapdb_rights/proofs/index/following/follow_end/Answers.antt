@@ -19,7 +19,7 @@ settle-requires-clause-listed c =
 pub settle-requires-clause-settled : goal.settle-requires-clause-settled
 settle-requires-clause-settled c =
     let S : State = state_of_facts c.args.facts.now in
-    left_by_op S c.requires.stood.before (Closed c.args.space) (cached_in c.args.changes.now.entries) c.push_space.new.stack.items
+    left_by_op S c.requires.stood.before (Closed c.args.space) (cached_in c.args.changes.now.own.entries) c.push_space.new.stack.items
     c.requires.stood.is c.requires.stood.stood.rights
     (λ id page stirs.
     let r : Record = stirs.0 in
@@ -31,7 +31,7 @@ settle-requires-clause-settled c =
     (c.in_ok-push_space.ensures r own ((listed_by_end S c.requires.stood.before c.args.space c.args.listed.now c.requires.stood.is c.requires.stood.stood.listed_there).places r own) stirs.2 page (rights_in_place c.requires.stood.before id r page other stirs.1 stirs.3)))
 
 pub settle-requires-clause-frames : goal.settle-requires-clause-frames
-settle-requires-clause-frames c = frames_by_op (state_of_facts c.args.facts.now) c.requires.stood.before (Closed c.args.space) c.args.changes.now.entries c.requires.stood.is c.requires.stood.stood.frames
+settle-requires-clause-frames c = frames_by_op (state_of_facts c.args.facts.now) c.requires.stood.before (Closed c.args.space) c.args.changes.now.own.entries c.requires.stood.is c.requires.stood.stood.frames
 
 pub returns : goal.returns
 returns c =

@@ -1,7 +1,11 @@
-use Rattle.std.proofs.Common.{inl, inr}
+use Rattle.std.proofs.Common.{inl, inr, subst}
+use Rattle.std.specs.Prelude.{Option}
 use Rattle.std.proofs.lemmas.Bool.{cases_Bool}
 use Rattle.mapdb_facts.specs.Names.{is_after}
-use Rattle.mapdb_rights.proofs.PlaceNames.{name_found, stands_there}
+use Rattle.mapdb_rights.specs.Among.{behind_name}
+use Rattle.mapdb_rights.specs.Listing.{IsFirstInside}
+use Rattle.mapdb_rights.specs.declared.index.places.Listed.{Listed}
+use Rattle.mapdb_rights.proofs.PlaceNames.{name_found, none_there, stands_there}
 use Rattle.mapdb_rights.proofs.index.live_names.name_after.Goals as goal
 
 pub returns-in-Some : goal.returns-in-Some
@@ -20,3 +24,8 @@ returns-in_default-2 c id has =
       | inl above ↦ absurd (c.if-entry-place.false (stands_there c.args.place c.args.listed.now c.args.after c.in-Some.entry c.in-Some.ensures id has above).0)
       | inr other ↦ other
     ]
+
+pub returns-in_default-3 : goal.returns-in_default-3
+returns-in_default-3 c =
+    none_there c.args.place c.args.listed.now c.args.after
+    (subst (λ (found : Option Listed). IsFirstInside c.args.listed.now c.args.place.owner (behind_name c.args.place c.args.after) found) c.in_default.is c.entry_after.ensures)

@@ -8,7 +8,7 @@ abbrev pub invariant-pages : goal.invariant-pages
 invariant-pages l = record {
   above : l.start < l.end;
   limit : l.end ≤ page_limit;
-  same : (q : ℕ) → l.start ≤ q → q < l.end → cached_in l.changes.entries l.id q ≡ l.rights;
+  same : (q : ℕ) → l.start ≤ q → q < l.end → cached_in l.changes.own.entries l.id q ≡ l.rights;
 }
 
 abbrev pub decreases-pages : goal.decreases-pages

@@ -5,7 +5,7 @@ use Rattle.mapdb_rights.proofs.index.runs.runs_of.Given as goal
 
 -- those that were found, and those behind them
 abbrev pub invariant-runs : goal.invariant-runs
-invariant-runs l = l.runs.items ++ runs_behind (cached_in l.changes.entries l.id) l.page ≡ runs_behind (cached_in l.changes.entries l.id) 0
+invariant-runs l = l.runs.items ++ runs_behind (cached_in l.changes.own.entries l.id) l.page ≡ runs_behind (cached_in l.changes.own.entries l.id) 0
 
 abbrev pub decreases-runs : goal.decreases-runs
-decreases-runs l = length (runs_behind (cached_in l.changes.entries l.id) l.page)
+decreases-runs l = length (runs_behind (cached_in l.changes.own.entries l.id) l.page)

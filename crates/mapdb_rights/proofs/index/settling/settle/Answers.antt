@@ -9,5 +9,5 @@ use Rattle.mapdb_rights.proofs.index.settling.settle.Goals as goal
 pub returns-clause-rights : goal.returns-clause-rights
 returns-clause-rights c =
     let none : length c.stale.stack.items ≡ 0 = grind (arith, common_steps) in
-    settled_is_exact (state_of_facts c.args.facts.now) (cached_in c.stale.changes.entries)
+    settled_is_exact (state_of_facts c.args.facts.now) (cached_in c.stale.changes.own.entries)
     (λ id page. elim (c.stale.invariant.settled id page) [ inl settled ↦ settled | inr pending ↦ absurd (none_pending c.stale.stack.items id page none pending) ])

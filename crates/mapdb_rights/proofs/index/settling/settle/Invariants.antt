@@ -6,8 +6,8 @@ use Rattle.mapdb_rights.proofs.index.settling.settle.Given as goal
 -- all but what is stale follows from the parents', and no frame is wrong
 abbrev pub invariant-stale : goal.invariant-stale
 invariant-stale l = record {
-  settled : AreSettledBut (state_of_facts l.facts) (cached_in l.changes.entries) l.stack.items;
-  frames : AreFrames (state_of_facts l.facts) l.changes.entries;
+  settled : AreSettledBut (state_of_facts l.facts) (cached_in l.changes.own.entries) l.stack.items;
+  frames : AreFrames (state_of_facts l.facts) l.changes.own.entries;
 }
 
 abbrev pub decreases-stale : goal.decreases-stale

@@ -1,5 +1,4 @@
 use Rattle.std.proofs.Common.{arith}
-use Rattle.std.specs.BTreeSet.{btree_set_len}
 use Rattle.mapdb_facts.specs.Facts.{state_of_facts}
 use Rattle.mapdb_rights.specs.Changes.{cached_in}
 use Rattle.mapdb_rights.specs.Pending.{base_of}
@@ -7,10 +6,11 @@ use Rattle.mapdb_rights.proofs.Pendings.{weight-last}
 use Rattle.mapdb_rights.proofs.Settlement.{step_empty, step_settled, weight_falls}
 use Rattle.mapdb_rights.proofs.Results.{on_both, on_ok}
 use Rattle.mapdb_rights.proofs.index.settling.settle_next.Goals as goal
+use Rattle.mapdb_rights.specs.Listing.{listed_len}
 
 pub returns-then-stale-clause-settled : goal.returns-then-stale-clause-settled
 returns-then-stale-clause-settled c =
-    step_empty (state_of_facts c.args.facts.now) (cached_in c.args.changes.now.entries) c.args.stack.now.items c.args.stale (omega arith) c.requires.settled
+    step_empty (state_of_facts c.args.facts.now) (cached_in c.args.changes.now.own.entries) c.args.stack.now.items c.args.stale (omega arith) c.requires.settled
 
 pub returns-then-stale-clause-weight : goal.returns-then-stale-clause-weight
 returns-then-stale-clause-weight c =
@@ -19,7 +19,7 @@ returns-then-stale-clause-weight c =
 pub returns-clause-settled : goal.returns-clause-settled
 returns-clause-settled c =
     on_both c.settle_run.result
-    (λ run later. step_settled (state_of_facts c.args.facts.now) (cached_in c.args.changes.now.entries) (cached_in c.settle_run.new.changes.entries)
+    (λ run later. step_settled (state_of_facts c.args.facts.now) (cached_in c.args.changes.now.own.entries) (cached_in c.settle_run.new.changes.own.entries)
     c.args.stack.now.items c.keep_rest.new.stack.items c.settle_run.new.stack.items c.args.stale c.min-end.result
     c.requires.settled c.in_ok-keep_rest.ensures.pending c.in_ok-keep_rest.ensures.rest later run)
     c.settle_run.ensures.settled c.settle_run.ensures.pending
@@ -27,6 +27,6 @@ returns-clause-settled c =
 pub returns-clause-weight : goal.returns-clause-weight
 returns-clause-weight c =
     on_ok c.settle_run.result
-    (λ w. weight_falls (btree_set_len c.args.listed.now) c.args.stack.now.items c.keep_rest.new.stack.items c.settle_run.new.stack.items c.args.stale c.min-end.result
+    (λ w. weight_falls (listed_len c.args.listed.now) c.args.stack.now.items c.keep_rest.new.stack.items c.settle_run.new.stack.items c.args.stale c.min-end.result
     (omega arith) (omega arith) (c.in_ok-keep_rest.ensures.weight (base_of c.args.listed.now)) (w (base_of c.args.listed.now) (omega arith)))
     c.settle_run.ensures.weight

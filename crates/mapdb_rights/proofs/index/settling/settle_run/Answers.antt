@@ -15,15 +15,15 @@ use Rattle.mapdb_rights.proofs.index.settling.settle_run.Goals as goal
 pub returns-then-eq-clause-settled : goal.returns-then-eq-clause-settled
 returns-then-eq-clause-settled c id page before =
     let S : State = state_of_facts c.args.facts.now in
-    let cached : Cached = cached_in c.args.changes.now.entries in
-    let known : c.change_from-change.result.rights ≡ cached_in c.args.changes.now.entries c.args.stale.id c.args.stale.first = exact_rights c.change_from-change.result.rights c.cached_at.result (sym c.eq.ensures ∙ c.if-eq.true) ∙ c.cached_at.ensures in
+    let cached : Cached = cached_in c.args.changes.now.own.entries in
+    let known : c.change_from-change.result.rights ≡ cached_in c.args.changes.now.own.entries c.args.stale.id c.args.stale.first = exact_rights c.change_from-change.result.rights c.cached_at.result (sym c.eq.ensures ∙ c.if-eq.true) ∙ c.cached_at.ensures in
     inl (settled_already S cached cached c.args.stale.id c.args.stale.first c.args.end c.change_from-change.result.rights c.change_from-change.ensures.rights c.requires.same c.requires.kept known id page before)
 
 pub returns-clause-settled : goal.returns-clause-settled
 returns-clause-settled c =
     let S : State = state_of_facts c.args.facts.now in
     on_ok c.push_children.result
-    (λ pushed. settled_after S (cached_in c.args.changes.now.entries) (cached_in c.write.new.changes.entries) c.args.stale.id c.args.stale.first c.args.end c.change_from-change.result.rights
+    (λ pushed. settled_after S (cached_in c.args.changes.now.own.entries) (cached_in c.write.new.changes.own.entries) c.args.stale.id c.args.stale.first c.args.end c.change_from-change.result.rights
     c.change_from-change.ensures.rights c.requires.same c.in_ok-write.ensures.cached c.push_children.new.stack.items
     (λ other r held parent page inside from before.
     let named = c.prove_held.ensures.named other r held in
@@ -37,7 +37,7 @@ pub returns-clause-frames : goal.returns-clause-frames
 returns-clause-frames c =
     let S : State = state_of_facts c.args.facts.now in
     on_any c.push_children.result
-    (frames_written S c.args.changes.now.entries c.write.new.changes.entries c.args.stale.id c.args.stale.first c.args.end c.change_from-change.result c.requires.frames
+    (frames_written S c.args.changes.now.own.entries c.write.new.changes.own.entries c.args.stale.id c.args.stale.first c.args.end c.change_from-change.result c.requires.frames
     (λ some q from before. c.requires.frames_on (ap is_empty (sym c.change_from-change.ensures.rights) ∙ some) c.change_from-change.result.shift
     (c.change_from-change.ensures.frame c.requires.frames some) q from before)
     c.in_ok-write.ensures.seen)

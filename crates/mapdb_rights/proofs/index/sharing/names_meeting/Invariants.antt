@@ -3,7 +3,7 @@ use Rattle.std.specs.Prelude.{◌⊎◌, IfSome}
 use Rattle.std.specs.BTreeSet.{IsOrdered, contains}
 use Rattle.mapdb_facts.specs.Kept.{id_cmp}
 use Rattle.mapdb_rights.specs.declared.index.places.Listed.{Listed}
-use Rattle.mapdb_rights.specs.Listing.{is_above, left_above, listed_cmp, meets}
+use Rattle.mapdb_rights.specs.Listing.{is_above, is_listed, left_above, meets}
 use Rattle.mapdb_rights.proofs.index.sharing.names_meeting.Given as goal
 
 -- each entry that meets the pages comes later, or its name is there
@@ -11,7 +11,7 @@ abbrev pub invariant-entries : goal.invariant-entries
 invariant-entries l = record {
   owned : IfSome l.after (λ e. e.owner ≡ l.fn.owner);
   ordered : IsOrdered id_cmp l.names;
-  named : (k : Listed) → contains listed_cmp l.listed k ≡ true → k.owner ≡ l.fn.owner → meets k l.first l.end ≡ true
+  named : (k : Listed) → is_listed l.listed k ≡ true → k.owner ≡ l.fn.owner → meets k l.first l.end ≡ true
       → (is_above l.after k ≡ true) ⊎ (contains id_cmp l.names k.id ≡ true);
 }
 

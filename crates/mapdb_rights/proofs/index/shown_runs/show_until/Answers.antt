@@ -12,7 +12,7 @@ entries-init c = record {
   above = c.root_until-end.ensures.above;
   limit = c.root_until-end.ensures.limit;
   first = c.root_until-end.ensures.same;
-  kept = passed_none c.args.listed.now c.args.space (cached_in c.args.changes.now.entries) c.args.page c.root_until-end.result;
+  kept = passed_none c.args.listed.now c.args.space (cached_in c.args.changes.now.own.entries) c.args.page c.root_until-end.result;
 }
 
 pub entries-preserved : goal.entries-preserved
@@ -27,7 +27,7 @@ entries-preserved c =
       above = omega (arith, c.min-end.ensures, above, further);
       limit = omega arith;
       first = λ here q low less. c.entries.invariant.first here q low (omega arith);
-      kept = passed_next c.args.listed.now c.args.space (cached_in c.args.changes.now.entries) c.args.page c.entries.passed c.in-Some.entry c.entries.end c.entry_until.result
+      kept = passed_next c.args.listed.now c.args.space (cached_in c.args.changes.now.own.entries) c.args.page c.entries.passed c.in-Some.entry c.entries.end c.entry_until.result
           c.min-end.result fewer up_to c.in-Some.ensures c.entry_until.ensures.same c.entries.invariant.kept;
     }
 
@@ -36,5 +36,5 @@ entries-smaller c = fewer_above c.args.listed.now c.entries.passed c.in-Some.ent
 
 pub returns-clause-shown : goal.returns-clause-shown
 returns-clause-shown c =
-    passed_all c.args.listed.now c.args.space (cached_in c.args.changes.now.entries) c.args.page (state_of_facts c.args.facts.now) c.prove_held.ensures.named
+    passed_all c.args.listed.now c.args.space (cached_in c.args.changes.now.own.entries) c.args.page (state_of_facts c.args.facts.now) c.prove_held.ensures.named
     c.requires.stands.listed_there c.requires.stands.rights c.entries.end c.entries.passed c.entries.invariant.first c.in_default.ensures c.entries.invariant.kept

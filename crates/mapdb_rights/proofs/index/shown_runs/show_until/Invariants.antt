@@ -14,8 +14,8 @@ invariant-entries l = record {
   owned : IfSome l.passed (λ p. p.owner ≡ owners.Space l.fn.space);
   above : l.page < l.end;
   limit : l.end ≤ page_limit;
-  first : is_first_space l.fn.space ≡ true → Stays l.listed l.fn.space (cached_in l.changes.entries) l.page root l.end;
-  kept : Passed l.listed l.fn.space (cached_in l.changes.entries) l.page l.passed l.end;
+  first : is_first_space l.fn.space ≡ true → Stays l.listed l.fn.space (cached_in l.changes.own.entries) l.page root l.end;
+  kept : Passed l.listed l.fn.space (cached_in l.changes.own.entries) l.page l.passed l.end;
 }
 
 abbrev pub decreases-entries : goal.decreases-entries

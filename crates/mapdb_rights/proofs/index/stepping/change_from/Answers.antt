@@ -19,7 +19,7 @@ use Rattle.mapdb_rights.proofs.index.stepping.change_from.Goals as goal
 pub returns-clause-rights : goal.returns-clause-rights
 returns-clause-rights c =
     let S : State = state_of_facts c.args.facts.now in
-    let cached : Cached = cached_in c.args.changes.now.entries in
+    let cached : Cached = cached_in c.args.changes.now.own.entries in
     let other : is_root c.args.id ≡ false = sym c.is_root.ensures ∙ c.if-is_root.false in
     let held : S.record_at c.args.id ≡ Some c.in-Some.mapping = sym c.record.ensures.held ∙ c.in-Some.is in
     let before : nat_lt c.in-Some.mapping.parent.number c.args.id.number ≡ true =
@@ -44,11 +44,11 @@ returns-clause-frame c frames some =
     subst (λ (id : RecordId). nat_lt r.parent.number id.number ≡ true) c.in-Some.ensures.named (parent_before r c.in-Some.ensures.formed) in
     let inside : holds r.place c.args.page ≡ true = sym c.holds.ensures ∙ c.if-not-holds.false in
     let reach : reaches c.args.id r c.args.page ≡ true = and_from (holds r.place c.args.page) (nat_lt r.parent.number c.args.id.number) inside before in
-    let up = up_has S c.args.id r other held c.args.changes.now.entries frames c.args.page (ap is_empty (sym (returns-clause-rights c)) ∙ some) in
+    let up = up_has S c.args.id r other held c.args.changes.now.own.entries frames c.args.page (ap is_empty (sym (returns-clause-rights c)) ∙ some) in
     let at : c.source_of-source.result ≡ source_page r c.args.page = c.source_of-source.ensures.page in
-    let shift : c.seen_at-up.result.shift ≡ (seen_in c.args.changes.now.entries r.parent (source_page r c.args.page)).shift =
-    (λ i. (c.seen_at-up.ensures i).shift) ∙ (λ i. (seen_in c.args.changes.now.entries r.parent (at i)).shift) in
+    let shift : c.seen_at-up.result.shift ≡ (seen_in c.args.changes.now.own.entries r.parent (source_page r c.args.page)).shift =
+    (λ i. (c.seen_at-up.ensures i).shift) ∙ (λ i. (seen_in c.args.changes.now.own.entries r.parent (at i)).shift) in
     let far = up.far in
     let below = up.below in
-    up_frame S c.args.id r other held c.args.page (seen_in c.args.changes.now.entries r.parent (source_page r c.args.page)).shift c.saturating_sub.result
+    up_frame S c.args.id r other held c.args.page (seen_in c.args.changes.now.own.entries r.parent (source_page r c.args.page)).shift c.saturating_sub.result
     reach c.requires up (omega (arith, at, shift, far, below))

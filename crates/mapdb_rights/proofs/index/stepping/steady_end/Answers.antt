@@ -31,9 +31,9 @@ returns-clause-frames c frames some shift has q later before =
     let at : c.source_of-source.result ≡ source_page r c.args.page = c.source_of-source.ensures.page in
     let from : c.source_of-source.result ≤ source_page r q = omega (arith, at, range) in
     let up_to : source_page r q < c.unchanged_until-2.result = omega (arith, at, range) in
-    up_frame_on S c.args.id r other held c.args.changes.now.entries frames c.args.page q shift
+    up_frame_on S c.args.id r other held c.args.changes.now.own.entries frames c.args.page q shift
     (and_from (holds r.place c.args.page) (nat_lt r.parent.number c.args.id.number) inside parent)
     (and_from (holds r.place q) (nat_lt r.parent.number c.args.id.number) inside_q parent)
     later range.0
-    (c.unchanged_until-2.ensures.same (source_page r q) from up_to ∙ (λ i. seen_in c.args.changes.now.entries r.parent (at i)))
+    (c.unchanged_until-2.ensures.same (source_page r q) from up_to ∙ (λ i. seen_in c.args.changes.now.own.entries r.parent (at i)))
     some has

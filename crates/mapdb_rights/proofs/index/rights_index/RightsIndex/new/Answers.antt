@@ -12,11 +12,11 @@ pub returns : goal.returns
 returns c = record {
   there = refl;
   stands = record {
-    rights = λ id page. ap (λ e. cached_in e id page) c.new.ensures.empty ∙ empty_stands id page;
-    frames = subst (λ e. AreFrames nothing e) (sym c.new.ensures.empty) (no_change_frames nothing);
+    rights = λ id page. ap (λ e. cached_in e id page) c.new.ensures ∙ empty_stands id page;
+    frames = subst (λ e. AreFrames nothing e) (sym c.new.ensures) (no_change_frames nothing);
     listed_there = record {
       places = λ r held. absurd (none_some r held);
-      aligned = none_aligned c.new-2.result c.new-2.ensures.empty;
+      aligned = none_aligned c.new-2.result c.new-2.ensures;
     };
   };
 }

@@ -8,7 +8,7 @@ use Rattle.mapdb_rights.proofs.index.rights_index.RightsIndex.pair_at.Goals as g
 
 pub returns-clause-pair : goal.returns-clause-pair
 returns-clause-pair c S stands =
-    let seen : c.seen_at-change.result ≡ seen_in c.args.self.now.changes.entries c.args.id c.args.page = c.seen_at-change.ensures in
+    let seen : c.seen_at-change.result ≡ seen_in c.args.self.now.changes.own.entries c.args.id c.args.page = c.seen_at-change.ensures in
     let some : is_empty c.seen_at-change.result.rights ≡ false = sym c.is_none.ensures ∙ c.if-is_none.false in
     let has = stands.stands.frames c.args.id c.args.page ((λ i. is_empty (sym seen i).rights) ∙ some) in
     ap Some (pair_is (frame_at S c.args.id c.args.page) (rights_at S c.args.id c.args.page) c.seen_at-change.result.rights c.frame.result has.frame has.reached

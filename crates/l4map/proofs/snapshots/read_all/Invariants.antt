@@ -1,0 +1,15 @@
+use Rattle.std.proofs.Common.{◌≡◌, ◌+◌, ◌-◌, false, vec_len}
+use Rattle.std.specs.Io.KnownBytes.{Consumes}
+use Rattle.mapdb_lines.specs.Limits.{line_limit}
+use Rattle.l4map.proofs.snapshots.read_all.Given as goal
+
+-- what was read so far stands in the input, and no read has failed
+abbrev pub invariant-pieces : goal.invariant-pieces
+invariant-pieces g l = record {
+  consumed : Consumes (g.R.Source.left l.fn.reader) (g.R.Source.left l.reader) l.input.items;
+  works : g.R.Source.has_failed l.reader ≡ false;
+  room : vec_len l.piece ≡ 65536;
+}
+
+abbrev pub decreases-pieces : goal.decreases-pieces
+decreases-pieces g l = (line_limit + 1) - vec_len l.input

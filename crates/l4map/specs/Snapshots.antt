@@ -1,0 +1,112 @@
+-- What is told of a snapshot, and how that ends.
+use Rattle.std.specs.Prelude.{◌≡◌, ◌⊎◌, ◌↔◌, ℕ, ◌<◌, Bool, true, List, [], ◌++◌, length, Result}
+use Rattle.std.specs.Prelude.{Ok, Err, codes}
+use Rattle.mapdb_lines.specs.Fronts.{BeginsWith}
+use Rattle.mapdb_lines.specs.Limits.{line_limit}
+use Rattle.mapdb_lines.specs.declared.fault.ScriptFault.TheVariants as script
+use Rattle.mapdb_picture.specs.Loading.{explained, pictured}
+use Rattle.mapdb_picture.specs.declared.faults.LoadFault.{LoadFault}
+use Rattle.mapdb_picture.specs.declared.faults.LoadFault.TheVariants.{Memory, Snapshot, Take}
+use Rattle.mapdb_facts.specs.declared.checking.OpFault.{OpFault}
+use Rattle.mapdb_fpage.specs.declared.places.FpageFault.{FpageFault}
+use Rattle.mapdb_snapshot.specs.declared.faults.SnapshotFault.{SnapshotFault}
+use Rattle.mapdb_snapshot.specs.declared.faults.SnapshotFault.TheVariants as snapshot
+use Rattle.mapdb_replica.specs.declared.faults.TakeFault.{TakeFault}
+use Rattle.mapdb_replica.specs.declared.faults.TakeFault.TheVariants as take
+use Rattle.mapdb_script.specs.Reply.{bad_name, snapshot_name}
+use Rattle.l4map.specs.Statuses.{memory_message, message_of}
+use Rattle.l4map.specs.declared.snapshots.Asked.{Asked}
+use Rattle.l4map.specs.declared.snapshots.Asked.TheVariants.{Page, Picture}
+use Rattle.l4map.specs.declared.snapshots.TellFault.{TellFault}
+use Rattle.l4map.specs.declared.snapshots.TellFault.TheVariants.{Load, Read, TooLong, Write}
+
+-- what is told of a text
+abbrev pub told_of : Asked → List ℕ → Result (List ℕ) LoadFault
+told_of Picture bytes = pictured bytes
+told_of (Page space page) bytes = explained bytes space page
+
+abbrev pub wants_memory : TellFault
+wants_memory = Load Memory
+
+-- why not all was read, of which this was read
+abbrev pub IsUnread : TellFault → List ℕ → Type 0
+IsUnread Read input = Unit {0}
+IsUnread Write input = ⊥
+IsUnread TooLong input = line_limit < length input
+IsUnread (Load fault) input = fault ≡ Memory
+
+-- What is written of a text: all of it, or a front of it where the writer failed.
+abbrev pub IsFront : Result (Unit {0}) TellFault → List ℕ → List ℕ → Type 0
+IsFront (Ok done) whole front = front ≡ whole
+IsFront (Err Write) whole front = BeginsWith whole front
+IsFront (Err Read) whole front = ⊥
+IsFront (Err TooLong) whole front = ⊥
+IsFront (Err (Load fault)) whole front = ⊥
+
+-- What was written for an input of which this was read; `Over` says that the reader is over.
+-- Nothing is written where the input is too long, or is no snapshot that a copy can hold.
+abbrev pub TellsSnapshot : Asked → Result (Unit {0}) TellFault → List ℕ → List ℕ → Type 0 → Type 0
+TellsSnapshot asked (Ok done) input text Over = Over × (told_of asked input ≡ Ok text)
+TellsSnapshot asked (Err Read) input text Over = text ≡ []
+TellsSnapshot asked (Err Write) input text Over = Over
+    × ((whole : List ℕ) × (told_of asked input ≡ Ok whole) × BeginsWith whole text)
+TellsSnapshot asked (Err TooLong) input text Over = (text ≡ []) × (line_limit < length input)
+TellsSnapshot asked (Err (Load fault)) input text Over =
+    (text ≡ []) × ((fault ≡ Memory) ⊎ (Over × (told_of asked input ≡ Err fault)))
+
+-- The reader or the writer is blamed exactly where that one has failed.
+abbrev pub BlamesSnapshot : Result (Unit {0}) TellFault → Bool → Bool → Type 0
+BlamesSnapshot outcome reader_failed writer_failed =
+    ((outcome ≡ Err Read) ↔ (reader_failed ≡ true))
+    × ((outcome ≡ Err Write) ↔ (writer_failed ≡ true))
+
+-- the status where a text is no snapshot that a copy can hold
+abbrev pub load_status : LoadFault → ℕ
+load_status Memory = 4
+load_status (Snapshot fault) = 1
+load_status (Take fault) = 1
+
+abbrev pub snapshot_status : Result (Unit {0}) TellFault → ℕ
+snapshot_status (Ok done) = 0
+snapshot_status (Err Read) = 3
+snapshot_status (Err Write) = 3
+snapshot_status (Err TooLong) = 1
+snapshot_status (Err (Load fault)) = load_status fault
+
+-- what is told where an operation of a snapshot is not well-formed
+abbrev pub bad_message : OpFault → List ℕ
+bad_message why = codes "l4map: refused bad " ++ (bad_name why ++ codes "\n")
+
+-- what is told where a copy cannot take what a snapshot says
+abbrev pub take_message : TakeFault → List ℕ
+take_message (take.Bad place why) = bad_message why
+take_message (take.Clash id) = codes "l4map: refused clash\n"
+take_message take.Full = codes "l4map: refused full\n"
+take_message (take.Memory count) = memory_message
+
+-- what is told where a place of a snapshot is none
+abbrev pub page_message : FpageFault → List ℕ
+page_message why =
+    codes "l4map: refused snapshot " ++ (snapshot_name (snapshot.Page why) ++ codes "\n")
+
+-- what is told where a text is no snapshot
+abbrev pub text_message : SnapshotFault → List ℕ
+text_message snapshot.NotJson = codes "l4map: refused snapshot not-json\n"
+text_message snapshot.Shape = codes "l4map: refused snapshot shape\n"
+text_message snapshot.Version = codes "l4map: refused snapshot version\n"
+text_message (snapshot.Page why) = page_message why
+text_message snapshot.Memory = memory_message
+
+-- what is told of a snapshot of which nothing is told
+abbrev pub load_message : LoadFault → List ℕ
+load_message Memory = memory_message
+load_message (Snapshot fault) = text_message fault
+load_message (Take fault) = take_message fault
+
+-- what is told on the errors
+abbrev pub snapshot_message : Result (Unit {0}) TellFault → List ℕ
+snapshot_message (Ok done) = []
+snapshot_message (Err Read) = message_of (Err script.Read)
+snapshot_message (Err Write) = message_of (Err script.Write)
+snapshot_message (Err TooLong) = codes "l4map: refused snapshot too-long\n"
+snapshot_message (Err (Load fault)) = load_message fault

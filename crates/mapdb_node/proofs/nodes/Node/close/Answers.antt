@@ -1,0 +1,33 @@
+use Rattle.std.proofs.Common.{◌≡◌, ◌∙◌, ℕ, List, ap, subst, sym}
+use Rattle.std.specs.Prelude.{All, IfOk, IsTrue, Result, Ok, Err}
+use Rattle.mapdb_node.specs.Closing.{Closes}
+use Rattle.mapdb_node.specs.Histories.{calls_of, is_seat}
+use Rattle.mapdb_node.specs.Ledger.{Ledger}
+use Rattle.mapdb_node.specs.Seated.{Seated}
+use Rattle.mapdb_node.specs.Sharing.{Sharing}
+use Rattle.mapdb_node.specs.declared.closing.CloseFault.{CloseFault}
+use Rattle.mapdb_node.proofs.nodes.Node.close.Goals as goal
+
+-- each seat's calls stand in the history
+calls : (processor : ℕ) (shared : Sharing) (seats : List Seated) (result : Result Ledger CloseFault) → Closes processor shared seats result
+    → IfOk result (λ (history : Ledger). All (λ (s : Seated). calls_of s.number 0 history.entries ≡ s.calls) seats)
+calls processor shared seats (Ok history) closes =
+    subst (λ (book : Ledger). All (λ (s : Seated). calls_of s.number 0 book.entries ≡ s.calls) seats) (sym closes.0) closes.2.0.calls
+calls processor shared seats (Err fault) closes = tt
+
+-- each entry of the history is of one of the seats
+told : (processor : ℕ) (shared : Sharing) (seats : List Seated) (result : Result Ledger CloseFault) → Closes processor shared seats result
+    → IfOk result (λ (history : Ledger). All (λ e. IsTrue (is_seat seats e.seat)) history.entries)
+told processor shared seats (Ok history) closes =
+    subst (λ (book : Ledger). All (λ e. IsTrue (is_seat seats e.seat)) book.entries) (sym closes.0) closes.2.0.told
+told processor shared seats (Err fault) closes = tt
+
+pub returns-clause-calls : goal.returns-clause-calls
+returns-clause-calls c =
+    calls c.self.inside.processor c.into_inner.result c.args.seats.items c.closed.result
+    (subst (λ (seats : List Seated). Closes c.self.inside.processor c.into_inner.result seats c.closed.result) c.as_slice.ensures.value c.closed.ensures.closes)
+
+pub returns-clause-told : goal.returns-clause-told
+returns-clause-told c =
+    told c.self.inside.processor c.into_inner.result c.args.seats.items c.closed.result
+    (subst (λ (seats : List Seated). Closes c.self.inside.processor c.into_inner.result seats c.closed.result) c.as_slice.ensures.value c.closed.ensures.closes)

@@ -1,0 +1,4 @@
+pub mod Telling
+pub mod ChainLemmas
+pub mod LoadLemmas
+pub mod SameAtoms

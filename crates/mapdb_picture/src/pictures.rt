@@ -1,0 +1,217 @@
+//! The Graphviz text of what a copy holds.
+
+ghost use Rattle.std.specs.Prelude.{◌≡◌, ◌||◌, is_some, IfOk, flat_map, string_bytes};
+ghost use Rattle.mapdb_facts.specs.Facts.{records_of_facts, state_of_facts};
+ghost use Rattle.mapdb_snapshot.specs.Cutting.{cut_names};
+ghost use Rattle.mapdb_snapshot.specs.Snapshot.{ended_of};
+ghost use Rattle.mapdb_picture.specs.Picture.{absent_line, boxed, edge_text, ended_line};
+ghost use Rattle.mapdb_picture.specs.Picture.{ended_mark, graph_of, if_absent, is_known};
+ghost use Rattle.mapdb_picture.specs.Picture.{node_text, picture_text, record_lines, root_line};
+ghost use Rattle.mapdb_picture.specs.Picture.{style_text};
+
+use crate::gathering::{cut_names, ended_spaces};
+use crate::labels::{absent_label, record_label, root_label};
+use crate::spelling::{name_text, space_text};
+use mapdb_facts::{Facts, Op, Record, RecordId, Space};
+use mapdb_replica::Replica;
+use std::alloc::{AllocError, Global};
+
+/// Whether a line is solid, or dashed.
+fn style_text(is_solid: bool) -> &'static str
+    ensures { result.now ≡ style_text is_solid }
+{
+    if is_solid { "solid" } else { "dashed" }
+}
+
+/// A record, as a node.
+fn node_text(alloc: Global, id: RecordId, label: &str, is_solid: bool) -> Result<String, AllocError>
+    ensures { IfOk result (λ text. string_bytes text ≡ node_text id label.now is_solid) }
+{
+    let name = name_text(alloc, id)?;
+    let style = style_text(is_solid);
+    format!(in alloc; "\"{name}\" [label=\"{label}\", style={style}];")
+}
+
+/// The line from a record to one whose pages come from it.
+fn edge_text(
+    alloc: Global,
+    parent: RecordId,
+    id: RecordId,
+    is_solid: bool,
+) -> Result<String, AllocError>
+    ensures { IfOk result (λ text. string_bytes text ≡ edge_text parent id is_solid) }
+{
+    let parent = name_text(alloc, parent)?;
+    let name = name_text(alloc, id)?;
+    let style = style_text(is_solid);
+    format!(in alloc; "\"{parent}\" -> \"{name}\" [style={style}];\n")
+}
+
+/// What stands in the box of a space.
+fn boxed(alloc: Global, space: Space, inside: &str) -> Result<String, AllocError>
+    ensures { IfOk result (λ text. string_bytes text ≡ boxed space inside.now) }
+{
+    let number = space.number;
+    let version = space.version;
+    let name = space_text(alloc, space)?;
+    format!(in alloc;
+        "subgraph cluster_{number}_{version} {{ label=\"space {name}\"; {inside} }}\n"
+    )
+}
+
+/// Whether the root, or a record that is held, has this name.
+fn is_known(facts: &Facts, id: RecordId) -> bool
+    ensures { result ≡ is_known (state_of_facts facts.now) id }
+{
+    id.is_root() || facts.record(id).is_some()
+}
+
+/// A record that is not held.
+fn absent_line(alloc: Global, facts: &Facts, id: RecordId) -> Result<String, AllocError>
+    ensures { IfOk result (λ text. string_bytes text ≡ absent_line (state_of_facts facts.now) id) }
+{
+    let label = absent_label(alloc, facts, id)?;
+    let mut text = node_text(alloc, id, label.as_str(), false)?;
+    text.push_str("\n")?;
+    Ok(text)
+}
+
+/// A record, where it is not held.
+fn if_absent(alloc: Global, facts: &Facts, id: RecordId) -> Result<String, AllocError>
+    ensures { IfOk result (λ text. string_bytes text ≡ if_absent (state_of_facts facts.now) id) }
+{
+    if is_known(facts, id) {
+        return Ok(String::new(alloc));
+    }
+    absent_line(alloc, facts, id)
+}
+
+/// A record in the box of its space, and the line that leads to it: dashed where its parent is not
+/// held.
+fn record_lines(alloc: Global, facts: &Facts, mapping: &Record) -> Result<String, AllocError>
+    ensures { IfOk result (λ text. string_bytes text
+        ≡ record_lines (state_of_facts facts.now) mapping.now) }
+{
+    let is_solid = is_known(facts, mapping.parent);
+    let label = record_label(alloc, facts, mapping)?;
+    let node = node_text(alloc, mapping.id, label.as_str(), is_solid)?;
+    let space = boxed(alloc, mapping.space, node.as_str())?;
+    let parent = if_absent(alloc, facts, mapping.parent)?;
+    let edge = edge_text(alloc, mapping.parent, mapping.id, is_solid)?;
+    format!(in alloc; "{space}{parent}{edge}")
+}
+
+/// What makes a box grey, and says why.
+fn ended_mark(alloc: Global, space: Space) -> Result<String, AllocError>
+    ensures { IfOk result (λ text. string_bytes text ≡ ended_mark space) }
+{
+    let name = space_text(alloc, space)?;
+    format!(in alloc; "style=filled; color=grey; \"end {name}\" [label=\"ended\", shape=plain];")
+}
+
+/// The box of a space that has ended.
+fn ended_line(alloc: Global, space: Space) -> Result<String, AllocError>
+    ensures { IfOk result (λ text. string_bytes text ≡ ended_line space) }
+{
+    let mark = ended_mark(alloc, space)?;
+    boxed(alloc, space, mark.as_str())
+}
+
+/// The root, in the box of the first space.
+fn root_line(alloc: Global, facts: &Facts) -> Result<String, AllocError>
+    ensures { IfOk result (λ text. string_bytes text ≡ root_line (state_of_facts facts.now)) }
+{
+    let label = root_label(alloc, facts)?;
+    let node = node_text(alloc, RecordId::ROOT, label.as_str(), true)?;
+    boxed(alloc, Space::FIRST, node.as_str())
+}
+
+/// The lines of all records that are held, in ascending order of name.
+fn all_records(alloc: Global, facts: &Facts) -> Result<String, AllocError>
+    ensures { IfOk result (λ text. string_bytes text
+        ≡ flat_map (record_lines (state_of_facts facts.now)) (records_of_facts facts.now)) }
+{
+    let mut text = String::new(alloc);
+    let mut after = None;
+    'records: while let Some(mapping) = facts.next_record(after) {
+        text.push_str(record_lines(alloc, facts, &mapping)?.as_str())?;
+        after = Some(mapping.id);
+    }
+    Ok(text)
+}
+
+/// The lines of the records that are not held and of which rights are revoked.
+fn all_absent(alloc: Global, facts: &Facts, ops: &[Op]) -> Result<String, AllocError>
+    ensures { IfOk result (λ text. string_bytes text
+        ≡ flat_map (if_absent (state_of_facts facts.now)) (cut_names ops.now)) }
+{
+    let names = cut_names(alloc, ops)?;
+    let mut text = String::new(alloc);
+    for id in &names {
+        text.push_str(if_absent(alloc, facts, *id)?.as_str())?;
+    }
+    Ok(text)
+}
+
+/// The boxes of the spaces that have ended.
+fn all_ended(alloc: Global, ops: &[Op]) -> Result<String, AllocError>
+    ensures { IfOk result (λ text. string_bytes text ≡ flat_map ended_line (ended_of ops.now)) }
+{
+    let spaces = ended_spaces(alloc, ops)?;
+    let mut text = String::new(alloc);
+    for space in &spaces {
+        text.push_str(ended_line(alloc, *space)?.as_str())?;
+    }
+    Ok(text)
+}
+
+/// A graph of the root, of records, of names of which none is held, and of spaces that have ended.
+fn graph_of(
+    alloc: Global,
+    first: &str,
+    records: &str,
+    absent: &str,
+    ended: &str,
+) -> Result<String, AllocError>
+    ensures { IfOk result (λ text. string_bytes text
+        ≡ graph_of first.now records.now absent.now ended.now) }
+{
+    format!(in alloc;
+        "digraph mapdb {{\nrankdir=LR;\nnode [shape=box];\n{first}{records}{absent}{ended}}}\n"
+    )
+}
+
+/// The operations that the copy holds.
+fn operations(copy: &Replica) -> Result<Vec<Op>, AllocError>
+    ensures { IfOk result (λ ops. ops.items ≡ copy.now.ops) }
+{
+    match copy.give(0, copy.log_len()) {
+        Ok(ops) => Ok(ops),
+        Err(_) => Err(AllocError),
+    }
+}
+
+/// What the copy holds as Graphviz text: spaces as boxes, and in them the records, in ascending
+/// order of name, with their place and named rights, the page of their parent that they come from,
+/// the rights and the frame that they have at their first page, and what is revoked of them. A
+/// record is dashed whose parent is not held, and so is that parent; the box of a space that has
+/// ended is grey. It depends on what the operations say together alone. The one error is want of
+/// memory.
+pub fn picture(alloc: Global, copy: &Replica) -> Result<String, AllocError>
+    ensures { IfOk result (λ text. string_bytes text ≡ picture_text copy.now.ops) }
+{
+    let held = operations(copy)?;
+    let ops = held.as_slice();
+    let facts = copy.facts();
+    let first = root_line(alloc, facts)?;
+    let records = all_records(alloc, facts)?;
+    let absent = all_absent(alloc, facts, ops)?;
+    let ended = all_ended(alloc, ops)?;
+    graph_of(
+        alloc,
+        first.as_str(),
+        records.as_str(),
+        absent.as_str(),
+        ended.as_str(),
+    )
+}

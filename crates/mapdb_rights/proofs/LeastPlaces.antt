@@ -1,0 +1,172 @@
+-- The least of places that pass a test: found one by one, and as a search in their order shows it.
+use Rattle.std.proofs.Common.{◌≡◌, ℕ, ◌+◌, ◌<◌, Bool, true, false, cond, refl, sym, ap, subst, List, [], ◌∷◌, ◌++◌, get_or, take, length, ◌∙◌, inl, inr}
+use Rattle.std.specs.Prelude.{◌⊎◌, ◌&&◌, ◌||◌, Option, None, Some, if◌then◌else◌}
+use Rattle.std.specs.BTreeMap.{is_at}
+use Rattle.std.specs.BTreeMap.Range.{IsFromStart, is_from_start}
+use Rattle.std.specs.BTreeSet.{BTreeSet, IsKeyRangeOf}
+use Rattle.std.specs.List.{list_any}
+use Rattle.std.specs.Ordering.{is_gt, is_lt}
+use Rattle.std.specs.declared.ops.Bound.{Bound}
+use Rattle.std.specs.declared.ops.Bound.TheVariants.{Excluded, Included, Unbounded}
+use Rattle.std.proofs.lemmas.Bool.{and_from, and_parts, cases_Bool, true≢false}
+use Rattle.std.proofs.lemmas.List.{take_more}
+use Rattle.std.proofs.lemmas.List.Folds.{list_any_at}
+use Rattle.mapdb_rights.specs.declared.index.own_places.OwnPlace.{OwnPlace}
+use Rattle.mapdb_rights.specs.OwnPlaces.{IsLeast, IsLeastPlace, IsNextPlace, is_beyond, is_next, lesser_place, lesser_where, own_meets, place_cmp, stands}
+use Rattle.mapdb_rights.proofs.ListedOrder.{less_from}
+use Rattle.mapdb_rights.proofs.PlaceOrder.{at_back, exact_place, le_as, le_is, le_itself, le_on, lt_le, not_before, place_itself}
+
+-- ---- a list with one place more
+
+pub any_more : {X : Type 0} (t : X → Bool) (xs : List X) (x : X) → list_any t (xs ++ x ∷ []) ≡ (t x || list_any t xs)
+any_more t [] x = refl
+any_more t (y ∷ xs) x = ap (λ (b : Bool). t y || b) (any_more t xs x) ∙ turn (t y) (t x) (list_any t xs)
+  where
+    turn : (a b c : Bool) → (a || (b || c)) ≡ (b || (a || c))
+    turn true true c = refl
+    turn true false c = refl
+    turn false b c = refl
+
+-- what stands there is the new place or stood there before
+pub stands_more : (places : List OwnPlace) (p k : OwnPlace) → stands (places ++ p ∷ []) k ≡ (is_at (place_cmp p) k || stands places k)
+stands_more places p k = any_more (is_at (place_cmp k)) places p ∙ ap (λ (b : Bool). b || stands places k) (at_back k p)
+
+-- a list and a set with one place more
+pub list_put : (old new : List OwnPlace) (p : OwnPlace) → new ≡ old ++ p ∷ [] → (k : OwnPlace) → stands new k ≡ (is_at (place_cmp p) k || stands old k)
+list_put old new p is k = ap (λ (l : List OwnPlace). stands l k) is ∙ stands_more old p k
+
+pub set_put : (old new : List OwnPlace) (p : OwnPlace) → ((k : OwnPlace) → stands new k ≡ cond (is_at (place_cmp p) k) true (stands old k))
+    → (k : OwnPlace) → stands new k ≡ (is_at (place_cmp p) k || stands old k)
+set_put old new p put k = put k ∙ either (is_at (place_cmp p) k) (stands old k)
+  where
+    either : (a b : Bool) → cond a true b ≡ (a || b)
+    either true b = refl
+    either false b = refl
+
+pub set_step : (places : List OwnPlace) (i : ℕ) (d : OwnPlace) (old new : List OwnPlace) → i < length places
+    → ((k : OwnPlace) → stands new k ≡ cond (is_at (place_cmp (get_or places i d)) k) true (stands old k))
+    → ((k : OwnPlace) → stands old k ≡ stands (take i places) k) → (k : OwnPlace) → stands new k ≡ stands (take (i + 1) places) k
+set_step places i d old new inside put before k =
+    set_put old new (get_or places i d) put k
+    ∙ ap (λ (b : Bool). is_at (place_cmp (get_or places i d)) k || b) (before k)
+    ∙ sym (stands_more (take i places) (get_or places i d) k)
+    ∙ ap (λ (l : List OwnPlace). stands l k) (sym (take_more places i d inside))
+
+-- each place of a list stands there
+pub item_stands : (places : List OwnPlace) (i : ℕ) (d : OwnPlace) → i < length places → stands places (get_or places i d) ≡ true
+item_stands places i d inside = list_any_at (is_at (place_cmp (get_or places i d))) places i d inside (place_itself (get_or places i d))
+
+-- ---- found one by one
+
+module _ (test : OwnPlace → Bool) (done : List OwnPlace) (p : OwnPlace) where
+  either_stands : (k : OwnPlace) → stands (done ++ p ∷ []) k ≡ true → (p ≡ k) ⊎ (stands done k ≡ true)
+  either_stands k has =
+      elim (cases_Bool (is_at (place_cmp p) k)) [
+        | inl here ↦ inl (exact_place p k here)
+        | inr other ↦ inr (ap (λ (b : Bool). b || stands done k) (sym other) ∙ sym (stands_more done p k) ∙ has)
+      ]
+
+  still_stands : (k : OwnPlace) → stands done k ≡ true → stands (done ++ p ∷ []) k ≡ true
+  still_stands k has = stands_more done p k ∙ later (is_at (place_cmp p) k) (stands done k) has
+    where
+      later : (a b : Bool) → b ≡ true → (a || b) ≡ true
+      later true b h = refl
+      later false b h = h
+
+  new_stands : stands (done ++ p ∷ []) p ≡ true
+  new_stands = stands_more done p p ∙ ap (λ (b : Bool). b || stands done p) (place_itself p)
+
+  -- where the new place passes
+  with_passing : (found : Option OwnPlace) → test p ≡ true → IsLeast test done found → IsLeastPlace test (done ++ p ∷ []) (lesser_place found p)
+  with_passing None pass h = record {
+    held = new_stands;
+    passing = pass;
+    least = λ k has passes. elim (either_stands k has) [
+      | inl same ↦ subst (λ (x : OwnPlace). is_gt (place_cmp p x) ≡ false) same (le_itself p)
+      | inr before ↦ absurd (true≢false (sym passes ∙ h k before))
+    ];
+  }
+  with_passing (Some q) pass h = by (is_lt (place_cmp q p)) refl
+    where
+      by : (b : Bool) → is_lt (place_cmp q p) ≡ b → IsLeastPlace test (done ++ p ∷ []) (if b then q else p)
+      by true before = record {
+        held = still_stands q h.held;
+        passing = h.passing;
+        least = λ k has passes. elim (either_stands k has) [
+          | inl same ↦ subst (λ (x : OwnPlace). is_gt (place_cmp q x) ≡ false) same (lt_le q p before)
+          | inr stood ↦ h.least k stood passes
+        ];
+      }
+      by false behind = record {
+        held = new_stands;
+        passing = pass;
+        least = λ k has passes. elim (either_stands k has) [
+          | inl same ↦ subst (λ (x : OwnPlace). is_gt (place_cmp p x) ≡ false) same (le_itself p)
+          | inr stood ↦ le_on p q k (not_before q p behind) (h.least k stood passes)
+        ];
+      }
+
+  -- the least so far, and the least with one place more
+  pub least_more : (found : Option OwnPlace) → IsLeast test done found → IsLeast test (done ++ p ∷ []) (lesser_where test found p)
+  least_more found h = by (test p) refl found h
+    where
+      by : (b : Bool) → test p ≡ b → (found : Option OwnPlace) → IsLeast test done found → IsLeast test (done ++ p ∷ []) (if b then Some (lesser_place found p) else found)
+      by true pass found h = with_passing found pass h
+      by false fails None h = λ k has. elim (either_stands k has) [
+        | inl same ↦ ap test (sym same) ∙ fails
+        | inr stood ↦ h k stood
+      ]
+      by false fails (Some q) h = record {
+        held = still_stands q h.held;
+        passing = h.passing;
+        least = λ k has passes. elim (either_stands k has) [
+          | inl same ↦ absurd (true≢false (sym passes ∙ ap test (sym same) ∙ fails))
+          | inr stood ↦ h.least k stood passes
+        ];
+      }
+
+pub least_step : (test : OwnPlace → Bool) (places : List OwnPlace) (i : ℕ) (d : OwnPlace) (found : Option OwnPlace) → i < length places
+    → IsLeast test (take i places) found → IsLeast test (take (i + 1) places) (lesser_where test found (get_or places i d))
+least_step test places i d found inside h =
+    subst (λ (done : List OwnPlace). IsLeast test done (lesser_where test found (get_or places i d))) (sym (take_more places i d inside))
+    (least_more test (take i places) (get_or places i d) found h)
+
+-- the least of those that come after another and meet the pages
+pub next_of : (places : List OwnPlace) (first end : ℕ) (after r : Option OwnPlace) → IsLeast (is_next after first end) places r → IsNextPlace places first end after r
+next_of places first end after None h = λ k has above. sym (ap (λ (b : Bool). b && own_meets k first end) above) ∙ h k has
+next_of places first end after (Some p) h =
+    let both = and_parts (is_beyond after p) (own_meets p first end) h.passing in
+    record {
+      held = h.held;
+      above = both.0;
+      meeting = both.1;
+      least = λ k has above meeting. h.least k has (and_from (is_beyond after k) (own_meets k first end) above meeting);
+    }
+
+-- ---- found in the order
+
+inside_as : (start : Bound OwnPlace) (k : OwnPlace) → IsFromStart place_cmp start k → is_from_start place_cmp start k ≡ true
+inside_as (Included a) k h = le_as (place_cmp a k) h
+inside_as (Excluded a) k h = ap is_lt h
+inside_as Unbounded k h = refl
+
+as_inside : (start : Bound OwnPlace) (k : OwnPlace) → is_from_start place_cmp start k ≡ true → IsFromStart place_cmp start k
+as_inside (Included a) k h = le_is (place_cmp a k) h
+as_inside (Excluded a) k h = less_from (place_cmp a k) h
+as_inside Unbounded k h = tt
+
+pub first_shown : (set : BTreeSet OwnPlace) (start : Bound OwnPlace) (p : OwnPlace) (rest : List OwnPlace) → IsKeyRangeOf place_cmp start Unbounded set (p ∷ rest)
+    → IsLeastPlace (is_from_start place_cmp start) set.keys p
+first_shown set start p rest h = record {
+  held = h.1.1;
+  passing = inside_as start p h.1.0.0;
+  least = λ k has passes. h.2 k (as_inside start k passes, tt) has;
+}
+
+pub none_shown : (set : BTreeSet OwnPlace) (start : Bound OwnPlace) → IsKeyRangeOf place_cmp start Unbounded set []
+    → (k : OwnPlace) → stands set.keys k ≡ true → is_from_start place_cmp start k ≡ false
+none_shown set start h k has =
+    elim (cases_Bool (is_from_start place_cmp start k)) [
+      | inl so ↦ absurd (true≢false (sym has ∙ h.5 refl k (as_inside start k so, tt)))
+      | inr not_so ↦ not_so
+    ]

@@ -1,0 +1,114 @@
+-- The places of one owner, how they are ordered, and which of them meet pages.
+use Rattle.std.specs.Prelude.{◌≡◌, ℕ, Bool, true, false, ◌&&◌, ◌+◌, ◌-◌, ◌*◌, ◌%◌, ◌^◌, ◌≤◌, ◌<◌}
+use Rattle.std.specs.Prelude.{nat_lt, min, max, List, Option, Some, None, if◌then◌else◌}
+use Rattle.std.specs.BTreeMap.{is_at}
+use Rattle.std.specs.BTreeMap.Range.{IsLeBy}
+use Rattle.std.specs.List.{list_any}
+use Rattle.std.specs.Ordering.{is_lt, nat_cmp, ordering_then}
+use Rattle.std.specs.declared.cmp.Ordering.{Ordering}
+use Rattle.mapdb_fpage.specs.Bounds.{least_order, page_limit, top_order}
+use Rattle.mapdb_facts.specs.Kept.{id_cmp}
+use Rattle.mapdb_rights.specs.declared.index.own_places.OwnPlace.{OwnPlace}
+use Rattle.mapdb_rights.specs.declared.index.own_places.OwnPlaces.{OwnPlaces}
+use Rattle.mapdb_rights.specs.declared.index.own_places.OwnPlaces.TheVariants.{Few, Many}
+
+-- by the order, the first page and the record's name
+abbrev pub place_cmp : OwnPlace → OwnPlace → Ordering
+place_cmp a b =
+    ordering_then (nat_cmp a.order b.order)
+    (ordering_then (nat_cmp a.first b.first) (id_cmp a.id b.id))
+
+-- the places of the owner, each once or more
+abbrev pub own_list : OwnPlaces → List OwnPlace
+own_list (Few list) = list.items
+own_list (Many set) = set.keys
+
+-- the place is one of these
+abbrev pub stands : List OwnPlace → OwnPlace → Bool
+stands places p = list_any (is_at (place_cmp p)) places
+
+-- the least of the places that pass a test
+pub record IsLeastPlace (test : OwnPlace → Bool) (places : List OwnPlace) (p : OwnPlace)
+    : Type 0 where
+  pub held : stands places p ≡ true
+  pub passing : test p ≡ true
+  pub least : (k : OwnPlace) → stands places k ≡ true → test k ≡ true → IsLeBy place_cmp p k
+
+-- that place, where there is one
+abbrev pub IsLeast : (OwnPlace → Bool) → List OwnPlace → Option OwnPlace → Type 0
+IsLeast test places None = (k : OwnPlace) → stands places k ≡ true → test k ≡ false
+IsLeast test places (Some p) = IsLeastPlace test places p
+
+-- the lesser of two places, where there is another
+abbrev pub lesser_place : Option OwnPlace → OwnPlace → OwnPlace
+lesser_place None p = p
+lesser_place (Some q) p = if is_lt (place_cmp q p) then q else p
+
+-- the lesser of the place that was found and this one, where this one passes a test
+abbrev pub lesser_where : (OwnPlace → Bool) → Option OwnPlace → OwnPlace → Option OwnPlace
+lesser_where test found p = if test p then Some (lesser_place found p) else found
+
+-- how many pages the place has
+abbrev pub own_pages : OwnPlace → ℕ
+own_pages p = 2 ^ (p.order - least_order)
+
+-- from one page up to all, aligned, and from a page of the space on
+pub record IsAlignedPlace (p : OwnPlace) : Type 0 where
+  pub at_least_a_page : least_order ≤ p.order
+  pub at_most_all : p.order ≤ top_order
+  pub aligned : p.first % own_pages p ≡ 0
+  pub in_space : p.first < page_limit
+
+abbrev pub AreAligned : List OwnPlace → Type 0
+AreAligned places = (p : OwnPlace) → stands places p ≡ true → IsAlignedPlace p
+
+-- a page of the place lies among the pages from one on up to before an end
+abbrev pub own_meets : OwnPlace → ℕ → ℕ → Bool
+own_meets p first end = nat_lt (max p.first first) (min (p.first + own_pages p) end)
+
+-- the place stands after another, where there is one
+abbrev pub is_beyond : Option OwnPlace → OwnPlace → Bool
+is_beyond None p = true
+is_beyond (Some after) p = is_lt (place_cmp after p)
+
+-- it does, and meets the pages
+abbrev pub is_next : Option OwnPlace → ℕ → ℕ → OwnPlace → Bool
+is_next after first end p = is_beyond after p && own_meets p first end
+
+-- the least place above another that meets the pages
+pub record IsLeastNext (places : List OwnPlace) (first end : ℕ) (after : Option OwnPlace)
+    (p : OwnPlace) : Type 0 where
+  pub held : stands places p ≡ true
+  pub above : is_beyond after p ≡ true
+  pub meeting : own_meets p first end ≡ true
+  pub least : (k : OwnPlace) → stands places k ≡ true → is_beyond after k ≡ true
+      → own_meets k first end ≡ true → IsLeBy place_cmp p k
+
+-- that place, where there is one
+abbrev pub IsNextPlace : List OwnPlace → ℕ → ℕ → Option OwnPlace → Option OwnPlace → Type 0
+IsNextPlace places first end after None = (k : OwnPlace) → stands places k ≡ true
+    → is_beyond after k ≡ true → own_meets k first end ≡ false
+IsNextPlace places first end after (Some p) = IsLeastNext places first end after p
+
+-- a place above another, with none that meets the pages before it
+pub record IsReached (places : List OwnPlace) (first end : ℕ) (after : Option OwnPlace)
+    (p : OwnPlace) : Type 0 where
+  pub held : stands places p ≡ true
+  pub above : is_beyond after p ≡ true
+  pub least : (k : OwnPlace) → stands places k ≡ true → is_beyond after k ≡ true
+      → own_meets k first end ≡ true → IsLeBy place_cmp p k
+
+-- such a place, or none that meets the pages
+abbrev pub HasReached : List OwnPlace → ℕ → ℕ → Option OwnPlace → Option OwnPlace → Type 0
+HasReached places first end after None = (k : OwnPlace) → stands places k ≡ true
+    → is_beyond after k ≡ true → own_meets k first end ≡ false
+HasReached places first end after (Some p) = IsReached places first end after p
+
+-- the orders from a place's own on, counted twice, and one more where it ends before the first page
+abbrev pub orders_left : ℕ → OwnPlace → ℕ
+orders_left first p = 1 + 2 * (top_order + 1 - p.order) + (1 - (p.first + own_pages p - first))
+
+-- those of the place that is reached
+abbrev pub orders_ahead : ℕ → Option OwnPlace → ℕ
+orders_ahead first None = 0
+orders_ahead first (Some p) = orders_left first p

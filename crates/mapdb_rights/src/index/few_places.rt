@@ -1,0 +1,103 @@
+//! The least of a few places, found by looking at each.
+
+ghost use Rattle.std.specs.Prelude.{◌≡◌};
+ghost use Rattle.std.specs.BTreeMap.Range.{is_from_start};
+ghost use Rattle.mapdb_rights.specs.OwnPlaces.{AreAligned, IsAlignedPlace, IsLeast, IsNextPlace};
+ghost use Rattle.mapdb_rights.specs.OwnPlaces.{is_beyond, is_next, lesser_place, lesser_where};
+ghost use Rattle.mapdb_rights.specs.OwnPlaces.{place_cmp};
+
+use super::own_places::OwnPlace;
+use std::ops::Bound;
+
+/// The lesser of two places, where there is another.
+fn lesser(found: Option<OwnPlace>, place: OwnPlace) -> OwnPlace
+    ensures { result ≡ lesser_place found place }
+{
+    match found {
+        Some(other) if other.is_before(&place) => other,
+        _ => place,
+    }
+}
+
+/// Whether the place is inside the bound.
+fn is_inside(start: &Bound<OwnPlace>, place: &OwnPlace) -> bool
+    ensures { result ≡ is_from_start place_cmp start.now place.now }
+{
+    match start {
+        Bound::Included(from) => from.cmp(place).is_le(),
+        Bound::Excluded(after) => after.cmp(place).is_lt(),
+        Bound::Unbounded => true,
+    }
+}
+
+/// The lesser of the place that was found and this one, where this one is inside the bound.
+fn lesser_inside(
+    found: Option<OwnPlace>,
+    start: &Bound<OwnPlace>,
+    place: OwnPlace,
+) -> Option<OwnPlace>
+    ensures { result ≡ lesser_where (is_from_start place_cmp start.now) found place }
+{
+    if is_inside(start, &place) {
+        Some(lesser(found, place))
+    } else {
+        found
+    }
+}
+
+/// The least of the places inside the bound.
+pub(crate) fn least_inside(places: &[OwnPlace], start: &Bound<OwnPlace>) -> Option<OwnPlace>
+    ensures { IsLeast (is_from_start place_cmp start.now) places.now result }
+{
+    let mut found = None;
+    for place in places {
+        found = lesser_inside(found, start, *place);
+    }
+    found
+}
+
+/// Whether the place comes after another, where there is one.
+fn is_beyond(after: Option<OwnPlace>, place: &OwnPlace) -> bool
+    ensures { result ≡ is_beyond after place.now }
+{
+    match after {
+        Some(other) => other.is_before(place),
+        None => true,
+    }
+}
+
+/// The lesser of the place that was found and this one, where this one comes after another and
+/// meets the pages from `first` on up to before `end`.
+fn lesser_meeting(
+    found: Option<OwnPlace>,
+    first: u64,
+    end: u64,
+    after: Option<OwnPlace>,
+    place: OwnPlace,
+) -> Option<OwnPlace>
+    requires { IsAlignedPlace place }
+    ensures { result ≡ lesser_where (is_next after first end) found place }
+{
+    if is_beyond(after, &place) && place.meets(first, end) {
+        Some(lesser(found, place))
+    } else {
+        found
+    }
+}
+
+/// The least of the places, above another, that meets the pages from `first` on up to before `end`.
+pub(crate) fn least_meeting(
+    places: &[OwnPlace],
+    first: u64,
+    end: u64,
+    after: Option<OwnPlace>,
+) -> Option<OwnPlace>
+    requires { AreAligned places.now }
+    ensures { IsNextPlace places.now first end after result }
+{
+    let mut found = None;
+    for place in places {
+        found = lesser_meeting(found, first, end, after, *place);
+    }
+    found
+}

@@ -1,0 +1,35 @@
+//! Many changes of a record, found in their order.
+
+ghost use Rattle.std.specs.Prelude.{◌≤◌, ◌<◌};
+ghost use Rattle.mapdb_rights.specs.OwnChanges.{IsLastUpTo, IsNoneUntil, mapped_change};
+
+use super::changes::Change;
+use mapdb_fpage::PAGE_LIMIT;
+use std::collections::BTreeMap;
+use std::ops::Bound;
+
+/// The last change up to a page, and where it stands.
+pub(crate) fn many_last(map: &BTreeMap<u64, Change>, page: u64) -> Option<(u64, Change)>
+    ensures { IsLastUpTo (mapped_change map.now) page result }
+{
+    match map
+        .range((Bound::Unbounded, Bound::Included(&page)))
+        .next_back()
+    {
+        Some((at, change)) => Some((*at, *change)),
+        None => None,
+    }
+}
+
+/// The page of the next change behind a page: the end of the space where there is none.
+pub(crate) fn many_next(map: &BTreeMap<u64, Change>, page: u64) -> u64
+    requires { page < PAGE_LIMIT }
+    ensures above { page < result }
+    ensures limit { result ≤ PAGE_LIMIT }
+    ensures none { IsNoneUntil (mapped_change map.now) page result }
+{
+    match map.range((Bound::Excluded(&page), Bound::Unbounded)).next() {
+        Some((at, _)) => (*at).min(PAGE_LIMIT),
+        None => PAGE_LIMIT,
+    }
+}

@@ -1,0 +1,23 @@
+use Rattle.std.proofs.Common.{refl}
+use Rattle.mapdb_script.specs.Cluster.{commanded}
+use Rattle.mapdb_script.specs.States.{cluster_of}
+use Rattle.mapdb_script.proofs.ClusterLemmas.{command_accepted, command_refused, refused_nowhere}
+use Rattle.mapdb_script.proofs.cluster.Cluster.command.Goals as goal
+
+pub returns-in_default : goal.returns-in_default
+returns-in_default c =
+    refused_nowhere (cluster_of c.args.self.now) c.args.at (commanded (cluster_of c.args.self.now) c.args.at c.args.command.now)
+    _ c.in_ok-at.field-0 c.in_ok-at.ensures.none c.in_ok-at.ensures.some refl c.in_default.is
+
+pub returns-in-Err : goal.returns-in-Err
+returns-in-Err c =
+    let there = rw c.in-Some.is at c.in_ok-at.ensures.there in
+    rw (← there.0) (command_refused (cluster_of c.args.self.now) c.in-Some.at c.index_mut.result.now c.apply.new.self
+    c.args.command.now c.in-Err.fault _ there.1 c.index_mut.ensures.value c.in-Err.ensures.applies c.refused.ensures)
+
+pub returns-in_ok-text-in-Ok : goal.returns-in_ok-text-in-Ok
+returns-in_ok-text-in-Ok c =
+    let there = rw c.in-Some.is at c.in_ok-at.ensures.there in
+    rw (← there.0, c.in_ok-text-in-Ok.ensures, c.in_ok-accept-in-Ok.ensures)
+    (command_accepted (cluster_of c.args.self.now) c.in-Some.at c.index_mut.result.now c.apply.new.self
+    c.args.command.now c.in-Ok.applied there.1 c.index_mut.ensures.value c.in-Ok.ensures.applies)

@@ -1,0 +1,117 @@
+//! What copies tell each other by the lines of a script, and how they compare.
+
+use crate::cluster::{Cluster, Reply};
+use crate::replies::{Refusal, covers_text, message_text, same_text};
+use crate::turn_fault::TurnFault;
+use mapdb_cluster::Message;
+use mapdb_lines::LineFault;
+use mapdb_replica::{GiveFault, merge_among};
+
+impl Cluster {
+    ghost use Rattle.std.specs.Prelude.{◌≡◌, ◌<◌, ◌&&◌, IfOk, IfSome, OnOk, OnErr, Err, Some};
+    ghost use Rattle.std.specs.Prelude.{None, length, nat_lt, slice_get, if◌then◌else◌};
+    ghost use Rattle.mapdb_script.specs.Cluster.{at_processor, at_processors, covers_answer};
+    ghost use Rattle.mapdb_script.specs.Cluster.{delivered, merged, same_answer, send_done};
+    ghost use Rattle.mapdb_script.specs.States.{Does, cluster_of};
+    ghost use Rattle.mapdb_replica.specs.Giving.{given};
+
+    /// The places of two processors' copies, if the cluster has both.
+    fn places(&self, at: u8, other: u8) -> Result<Option<(usize, usize)>, LineFault>
+        ensures there { IfOk result (λ found. IfSome found (λ i. (i.0 ≡ at)
+            × (i.0 < length (cluster_of self.now).copies)
+            × (i.1 ≡ other) × (i.1 < length (cluster_of self.now).copies))) }
+        ensures found { IfOk result (λ found. found
+            ≡ (if nat_lt at (length (cluster_of self.now).copies)
+            && nat_lt other (length (cluster_of self.now).copies) then Some (at, other)
+            else None)) }
+        ensures some { OnOk result (0 < length (cluster_of self.now).copies) }
+        ensures none { OnErr result ((length (cluster_of self.now).copies ≡ 0)
+            × (result ≡ Err LineFault.NoProcessors)) }
+    {
+        let Some(at) = self.place(at)? else {
+            return Ok(None);
+        };
+        let Some(other) = self.place(other)? else {
+            return Ok(None);
+        };
+        Ok(Some((at, other)))
+    }
+
+    /// Sends a message with the operations of a processor's copy, from the mark `first` on and up
+    /// to before the mark `end`.
+    pub(crate) fn send(&mut self, at: u8, first: u32, end: u32) -> Result<Reply, TurnFault>
+        ensures { Does result (cluster_of self.new) (at_processor (cluster_of self.old) at
+            (λ copy. send_done (cluster_of self.old) (given copy.ops first end))) }
+    {
+        let Some(at) = self.place(at)? else {
+            return Ok(Reply::Refused(Refusal::NoProcessor));
+        };
+        let ops = match self.copies[at].give(first, end) {
+            Ok(ops) => ops,
+            Err(GiveFault::BadMark) => return Ok(Reply::Refused(Refusal::BadMark)),
+            Err(GiveFault::Memory) => return Err(TurnFault::Memory),
+        };
+        let text = message_text(self.alloc, self.messages.len(), ops.len())?;
+        self.messages.push(Message::new(ops))?;
+        Ok(Reply::Answered(text))
+    }
+
+    /// Brings a message to a processor, whose copy takes its operations.
+    pub(crate) fn deliver(&mut self, message: u32, at: u8) -> Result<Reply, TurnFault>
+        ensures { Does result (cluster_of self.new) (at_processor (cluster_of self.old) at
+            (delivered (cluster_of self.old) at
+            (slice_get (cluster_of self.old).messages message))) }
+    {
+        let Some(at) = self.place(at)? else {
+            return Ok(Reply::Refused(Refusal::NoProcessor));
+        };
+        let Some(message) = self.messages.as_slice().get(message as usize) else {
+            return Ok(Reply::Refused(Refusal::NoMessage));
+        };
+        let taken = self.copies[at].take(message.ops());
+        self.sequence.hear(at, taken.is_ok());
+        Reply::taken(self.alloc, taken)
+    }
+
+    /// Has a processor's copy take all that another one's holds, in its order of arrival.
+    pub(crate) fn merge(&mut self, into: u8, from: u8) -> Result<Reply, TurnFault>
+        ensures { Does result (cluster_of self.new)
+            (at_processors (cluster_of self.old) into from
+            (merged (cluster_of self.old) into from)) }
+    {
+        let Some((into, from)) = self.places(into, from)? else {
+            return Ok(Reply::Refused(Refusal::NoProcessor));
+        };
+        if into == from {
+            self.sequence.hear(into, true);
+            return Reply::taken(self.alloc, Ok(0));
+        }
+        let taken = merge_among(self.copies.as_mut_slice(), into, from);
+        self.sequence.hear(into, taken.is_ok());
+        Reply::taken(self.alloc, taken)
+    }
+
+    /// Asks whether the copies of two processors hold the same.
+    pub(crate) fn same(&self, at: u8, other: u8) -> Result<Reply, TurnFault>
+        ensures { Does result (cluster_of self.now)
+            (at_processors (cluster_of self.now) at other (same_answer (cluster_of self.now))) }
+    {
+        let Some((at, other)) = self.places(at, other)? else {
+            return Ok(Reply::Refused(Refusal::NoProcessor));
+        };
+        let text = same_text(self.alloc, self.copies[at].same(&self.copies[other]))?;
+        Ok(Reply::Answered(text))
+    }
+
+    /// Asks whether a processor's copy holds all that another one's holds.
+    pub(crate) fn covers(&self, at: u8, other: u8) -> Result<Reply, TurnFault>
+        ensures { Does result (cluster_of self.now)
+            (at_processors (cluster_of self.now) at other (covers_answer (cluster_of self.now))) }
+    {
+        let Some((at, other)) = self.places(at, other)? else {
+            return Ok(Reply::Refused(Refusal::NoProcessor));
+        };
+        let text = covers_text(self.alloc, self.copies[at].covers(&self.copies[other]))?;
+        Ok(Reply::Answered(text))
+    }
+}
