@@ -88,7 +88,10 @@ shown() {
 
 many_machines
 log_checking
+shown README.md
 shown docs/CHECKING.md
+shown docs/PICTURES.md
+shown docs/SCRIPT.md
 shown examples/many-machines/README.md
 echo "$passed passed, $failed failed"
 [[ $failed -eq 0 ]]

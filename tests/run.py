@@ -4,9 +4,9 @@
     tests/run.py [--short] [--jobs N] [--program PATH] [KIND ..]
     tests/run.py fuzz [--minutes N | --count N] [--seed S]
 
-Runs these kinds of tests, or all: rows, dialogue, refusals, streams, hostile, fuzz and planted. Each tells
-what it ran, and how many cases passed and failed. The last line is the sum, `N passed, M failed`;
-the status is 0 only where none failed.
+Runs these kinds of tests, or all: rows, dialogue, pictures, refusals, libraries, streams, hostile,
+fuzz and planted. Each tells what it ran, and how many cases passed and failed. The last line is the
+sum, `N passed, M failed`; the status is 0 only where none failed.
 """
 
 import argparse
@@ -19,6 +19,8 @@ from driver.dialogue import run_dialogues  # noqa: E402
 from driver.fuzz import fuzz  # noqa: E402
 from driver.hostile import run_hostile  # noqa: E402
 from driver.interposer import Workshop  # noqa: E402
+from driver.libraries import run_libraries  # noqa: E402
+from driver.pictures import run_pictures  # noqa: E402
 from driver.planted import run_planted  # noqa: E402
 from driver.program import BUILT, Program  # noqa: E402
 from driver.refusals import run_refusals  # noqa: E402
@@ -26,7 +28,9 @@ from driver.rows import run_rows  # noqa: E402
 from driver.streams import run_streams  # noqa: E402
 from driver.tally import Tally, total  # noqa: E402
 
-KINDS = ["rows", "dialogue", "refusals", "streams", "hostile", "fuzz", "planted"]
+KINDS = [
+    "rows", "dialogue", "pictures", "refusals", "libraries", "streams", "hostile", "fuzz", "planted"
+]
 SHORT_COUNT = 5000
 LONG_COUNT = 100000
 
@@ -61,6 +65,8 @@ def run_kind(
         return run_rows(program)
     if kind == "dialogue":
         return run_dialogues(program)
+    if kind == "pictures":
+        return run_pictures(program, chosen.short, chosen.jobs)
     if kind == "hostile":
         return run_hostile(program, chosen.short)
     if kind == "fuzz":
@@ -75,6 +81,8 @@ def run_kind(
         return run_planted(program, interposer, workshop.folder, chosen.jobs)
     if interposer is None:
         return Tally(kind).skip("there is no C compiler")
+    if kind == "libraries":
+        return run_libraries(interposer, chosen.jobs)
     run_interposed = run_refusals if kind == "refusals" else run_streams
     return run_interposed(program, interposer, chosen.short, chosen.jobs)
 

@@ -10,17 +10,19 @@ from driver.tally import Met, Tally
 from planted.faults import Fault, Scene, is_reported
 from planted.fuzz import fuzz_faults
 from planted.hostile import hostile_faults
+from planted.libraries import libraries_faults
+from planted.pictures import pictures_faults
 from planted.refusals import refusals_faults
 from planted.rows import rows_faults
 from planted.streams import streams_faults
 from planted.sums import sums_faults
 
-INTERPOSED = ("refusals", "streams", "sums")
+INTERPOSED = ("refusals", "libraries", "streams", "sums")
 
 
 def all_faults() -> list[Fault]:
-    return (rows_faults() + refusals_faults() + streams_faults() + hostile_faults()
-            + fuzz_faults() + sums_faults())
+    return (rows_faults() + pictures_faults() + refusals_faults() + libraries_faults()
+            + streams_faults() + hostile_faults() + fuzz_faults() + sums_faults())
 
 
 def run_planted(

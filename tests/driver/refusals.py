@@ -11,6 +11,7 @@ from driver.tally import Met, Tally
 
 NAMED = """
     flush_one_page_of_four every_delivery_order occupied_destination numbers_spent remap_after_unmap
+    picture_of_all_kinds explain_two_records
 """.split()
 LONGEST_SCRIPT = 20000
 MOST_REFUSALS = 1000000

@@ -11,7 +11,7 @@ from driver.tally import Met, Tally
 
 SHORT = """
     first_path flush_one_page_of_four every_delivery_order faulty_places_too_small threaded_exchange
-    empty_script
+    empty_script picture_of_nothing explain_memory
 """.split()
 LONGEST_SCRIPT = 20000
 PIECES = [
@@ -67,8 +67,8 @@ def has_failed(kind: str, whole: Outcome, found: Outcome) -> bool:
 def real_failures(program: Program) -> Iterator[Met]:
     """What the system itself refuses: a directory, a full device, and a pipe that nobody reads."""
     script = next(script for script in examples() if script.name == "first-path")
-    for command in ("run", "threads"):
-        found = run_on_folder(program, command)
+    for command in ("run", "threads", "picture"):
+        found = run_on_folder(program, [command])
         name = "%s, a directory as input" % command
         yield Met(found == Outcome(3, b"", READ_FAILED), name, str(found))
     for name, source, wanted in (
@@ -82,10 +82,11 @@ def real_failures(program: Program) -> Iterator[Met]:
     yield Met(found == Outcome(3, b"", WRITE_FAILED), "a pipe that nobody reads", str(found))
 
 
-def run_on_folder(program: Program, command: str) -> Outcome:
+def run_on_folder(program: Program, arguments: list[str]) -> Outcome:
+    """A run that fails as soon as it reads."""
     folder = os.open(os.path.dirname(os.path.abspath(__file__)), os.O_RDONLY)
     try:
-        return program.run([command], stdin=folder)
+        return program.run(arguments, stdin=folder)
     finally:
         os.close(folder)
 

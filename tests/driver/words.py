@@ -1,0 +1,86 @@
+"""Words of the command line that are refused, and those that ask for help or the version."""
+
+import os
+import re
+from typing import Iterator
+
+from driver.program import TOP, Outcome, Program, difference
+from driver.scripts import content
+from driver.streams import run_on_folder
+from driver.tally import Met
+
+NO_PAGE = """error: a space is a decimal number, or NUMBER.VERSION, \
+and an address is hexadecimal without a prefix
+"""
+MISSING = "error: the following required arguments were not provided:\n"
+USAGE = {
+    "run": "l4map run < SCRIPT",
+    "threads": "l4map threads [--capacity N] < SCRIPT",
+    "picture": "l4map picture < SNAPSHOT",
+    "explain": "l4map explain SPACE ADDRESS < SNAPSHOT",
+}
+SPACES = ["", "x", "-", "0x1", "1.", ".1", "1.x", "1.2.3", "65536", "1.4294967296", "1,2", "1e0",
+          "1:0", "\u0661", "9" * 21, "#", "all", "1 ", " 1", "1 41000"]
+ADDRESSES = ["", "g", "0x41000", "41000h", "41000/12", "1000000000000", "0" * 17, "4_1", "nil",
+             "41000 ", " 41000", "41000\r"]
+
+
+def all_refused() -> list[tuple[list[str], str]]:
+    """Arguments that are refused, and how the message begins."""
+    return [(["explain", space, "41000"], NO_PAGE) for space in SPACES] + [
+        (["explain", "1", address], NO_PAGE) for address in ADDRESSES
+    ] + [
+        (["explain", "1 41000", ""], NO_PAGE),
+        (["explain"], MISSING + "  <space>\n  <address>\n"),
+        (["explain", "1"], MISSING + "  <address>\n"),
+        (["explain", "1", "41000", "2"], "error: unexpected argument '2' found\n"),
+        (["explain", "-1", "41000"], "error: unexpected argument '-1' found\n"),
+        (["picture", "1"], "error: unexpected argument '1' found\n"),
+        (["picture", "--svg"], "error: unexpected argument '--svg' found\n"),
+        (["pictures"], "error: unrecognized subcommand 'pictures'\n"),
+    ]
+
+
+def refused_words(program: Program) -> Iterator[Met]:
+    """Words that are refused, before anything is read: the input would fail."""
+    for arguments, begin in all_refused():
+        found = run_on_folder(program, arguments)
+        holds = (found.status, found.output) == (2, b"") and is_refusal(found.errors, begin)
+        yield Met(holds, "words %r" % arguments, str(found))
+    found = run_on_folder(program, ["explain", "1", os.fsdecode(b"\xff")])
+    wanted = Outcome(2, b"", b"l4map: the command line is not UTF-8\n")
+    yield Met(found == wanted, "words that are no UTF-8", difference(wanted, found))
+
+
+def is_refusal(errors: bytes, begin: str) -> bool:
+    return errors.startswith(begin.encode()) and b"\n\nUsage: l4map " in errors
+
+
+# Help and the version
+
+
+def helps(program: Program) -> Iterator[Met]:
+    """The help of the program and of each subcommand, and the version, which that of the library
+    and the man page have too."""
+    yield told_as(program, ["--help"], list(USAGE.values()) + list(USAGE))
+    for name, usage in USAGE.items():
+        begin = "Usage: %s\n" % usage
+        for arguments in ([name, "--help"], [name, "-h"], ["help", name]):
+            yield told_as(program, arguments, [begin, "Status: 0 done, "])
+    version = re.search("^Version: (.*)$", stored_text("mapdb.pc.in"), re.M)[1]
+    for arguments in (["--version"], ["-V"]):
+        yield told_as(program, arguments, ["l4map %s (rattle-kit-" % version])
+    is_same = '"l4map %s"' % version in stored_text("docs/l4map.1")
+    yield Met(is_same, "the man page's version", "docs/l4map.1 has another version than " + version)
+
+
+def stored_text(path: str) -> str:
+    return content("%s/%s" % (TOP, path)).decode()
+
+
+def told_as(program: Program, arguments: list[str], parts: list[str]) -> Met:
+    """What is told on the errors has these parts, and nothing is read."""
+    found = run_on_folder(program, arguments)
+    holds = (found.status, found.output) == (2, b"") and all(
+        part.encode() in found.errors for part in parts)
+    return Met(holds, "words %r" % arguments, str(found))
