@@ -101,7 +101,7 @@ enum mapdb_status {
     MAPDB_BAD_NUMBER = 19,       /* a number of no record: 2^40 or more, or 0 but for the root's */
     MAPDB_PARENT_NOT_BEFORE = 20, /* a record's number is not greater than its parent's */
     MAPDB_SOURCE_UNALIGNED = 21, /* a record's source is no multiple of its place's page count */
-    MAPDB_PAGE_OUT_OF_SPACE = 22, /* a record's source begins, or a page of a call lies, beyond the space */
+    MAPDB_PAGE_OUT_OF_SPACE = 22, /* a record's source, or a page of a call, is beyond the space */
     MAPDB_BAD_RIGHTS = 23,       /* rights of 8 or more */
     MAPDB_CLASH = 24,            /* two different records have one name */
     MAPDB_BAD_MARK = 25,         /* the first mark is above the end mark, or that above the list */
@@ -274,12 +274,13 @@ MAPDB_NONNULL void mapdb_destroy(mapdb_copy *copy);
  *   MAPDB_SPACE_ENDED: a space has ended, as issued->space tells.
  *   MAPDB_ROOT_SPACE, MAPDB_NUMBERS_SPENT, MAPDB_FULL: nothing is issued.
  *   MAPDB_MEMORY: the first issued->count operations stand; they are not all.
- * Where an argument is refused, or there is no copy, *issued is not written.
+ * Where an argument is refused, or there is no copy, *issued is not written. The statuses of a
+ * place are MAPDB_TOO_SMALL, MAPDB_TOO_LARGE, MAPDB_OUT_OF_SPACE and MAPDB_UNALIGNED.
  */
 
 /*
- * Map: what the page of an item offers, with a send base, goes from the sender's space into a
- * receive window of the receiver's. The smaller of page and window goes over; in the larger, the
+ * Map: what the fpage of an item offers, with a send base, goes from the sender's space into a
+ * receive window of the receiver's. The smaller of fpage and window goes over; in the larger, the
  * send base picks the part, counted round. Each record of the sender's space with one of these
  * rights on a page there makes one record of the receiver's. Also:
  *   MAPDB_BAD_SPACE; of the page MAPDB_TOO_SMALL, MAPDB_TOO_LARGE, MAPDB_OUT_OF_SPACE,
@@ -304,7 +305,9 @@ MAPDB_CALL uint32_t mapdb_map_words(mapdb_copy *copy, mapdb_space sender, uint64
 /*
  * Unmap: takes the page's rights, on its pages, from all that other spaces received from this space
  * there, directly or through others; with a flush that is not 0 from the space itself too. What
- * this copy does not know yet loses them when it comes. Also:
+ * this copy does not know yet loses them when it comes, where it comes from a child that this copy
+ * knew, and with a flush all that comes from the space's own pages there. Without a flush a child
+ * of the space's own pages that this copy does not know keeps its rights. Also:
  *   MAPDB_BAD_SPACE, and those of the page as of mapdb_map. MAPDB_ROOT_SPACE is none: the first
  *     space may unmap.
  */
@@ -333,9 +336,12 @@ MAPDB_CALL uint32_t mapdb_end(mapdb_copy *copy, mapdb_space space, mapdb_issued 
  * stands behind what was held. But for the last of these, a batch is refused as a whole, with
  * nothing changed, for the first that holds:
  *   MAPDB_NO_COPY: *taken is not written.
- *   MAPDB_MEMORY, with taken->place 0: to read the batch. It may come in place of any of these.
+ *   MAPDB_MEMORY, with taken->place 0: to read the batch. It may come in place of any below.
  *   MAPDB_BAD_KIND, MAPDB_BAD_SPACE, MAPDB_BAD_PROCESSOR, MAPDB_BAD_RIGHTS or that of a place: the
- *     operation at taken->place says none. It is the first such one.
+ *     operation at taken->place says no operation. It is the first such one. Its kind is looked at
+ *     first; of a record then its processor, space, place, parent's processor and rights, of a
+ *     revocation its processor, place and rights, of an end its space. All operations are read
+ *     before any of the faults below is looked for.
  *   MAPDB_BAD_NUMBER, MAPDB_PARENT_NOT_BEFORE, MAPDB_SOURCE_UNALIGNED, MAPDB_ROOT_SPACE,
  *     MAPDB_PAGE_OUT_OF_SPACE: the operation at taken->place is not well-formed. It is the first
  *     such one.
@@ -440,7 +446,8 @@ MAPDB_CALL uint32_t mapdb_snapshot(mapdb_copy *copy, uint8_t *room, size_t lengt
  *   MAPDB_NOT_JSON, MAPDB_SNAPSHOT_SHAPE, MAPDB_SNAPSHOT_VERSION, or that of a place: nothing is
  *     changed.
  *   MAPDB_MEMORY: in place of any of these with nothing changed, or as of mapdb_take.
- *   Else those of mapdb_take, with places of this order.
+ *   Else those of mapdb_take, with places of this order; here an operation's number is looked at
+ *     before its processor: MAPDB_BAD_NUMBER, MAPDB_BAD_PROCESSOR, MAPDB_PARENT_NOT_BEFORE and on.
  */
 MAPDB_CALL uint32_t mapdb_load(mapdb_copy *copy, const uint8_t *text, size_t length,
     mapdb_taken *taken);

@@ -49,7 +49,7 @@ pub enum Status {
     ParentNotBefore = 20,
     /// A record's source is no multiple of its place's page count.
     SourceUnaligned = 21,
-    /// A record's source begins beyond the space.
+    /// A record's source begins beyond the space, or the page from which a run is asked lies there.
     PageOutOfSpace = 22,
     /// Rights of 8 or more.
     BadRights = 23,
