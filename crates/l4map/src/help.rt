@@ -1,7 +1,7 @@
 //! The texts of help.
 
 /// The version, and the kit that it is proved with. `mapdb.pc.in` has the same version.
-pub const VERSION: &str = "1.0.0 (rattle-kit-13f)";
+pub const VERSION: &str = "1.0.0 (rattle-kit-13)";
 
 /// What the program does, in a line.
 pub const ABOUT: &str = "Runs scripts on a replicated L4 X.2 mapping database.";

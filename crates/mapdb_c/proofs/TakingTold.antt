@@ -46,3 +46,6 @@ pub given_taken :
     → TakesGiven raws told taken old new
 given_taken raws batch told taken old new is takes =
     subst (λ (read : Result (List Op) Unread). TakesRead read told taken old new) (sym is) (inl takes)
+
+-- what is told of a batch, taken or not
+pub ruleset batch_told = (batch_done, batch_not_done)

@@ -92,7 +92,7 @@ fn take_status(fault: TakeFault) -> Status
 }
 
 /// Takes a batch at a copy, and tells what became of it.
-#[tactic(auto, using(crate::proofs::TakingTold::batch_done, crate::proofs::TakingTold::batch_not_done))]
+#[tactic(auto, using(crate::proofs::TakingTold::batch_told))]
 pub fn take_at(replica: &mut Replica, batch: &[Op], taken: &mut Taken) -> Status
     ensures { TakesAs batch.now (take_outcome replica.old.ops batch.now)
         result taken.new replica.old replica.new }

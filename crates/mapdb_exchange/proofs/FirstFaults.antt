@@ -51,3 +51,6 @@ new_first xs held f first is =
 pub only_first : (xs : List WorkFault) (f : WorkFault) → xs ≡ [] → IsFirstFault (xs ++ f ∷ []) f
 only_first [] f is = record { before = []; after = []; stands = refl; sooner = tt; later = tt }
 only_first (x ∷ xs) f is = cc
+
+-- which fault is told once one more is met
+pub ruleset told_first = (still_first, new_first, only_first)

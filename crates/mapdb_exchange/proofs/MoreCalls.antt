@@ -13,6 +13,7 @@ use Rattle.mapdb_node.specs.declared.seats.Call.{Call}
 use Rattle.mapdb_exchange.specs.Calls.{commands_in, held_in, ops_in, taken_in, with_event_command, with_held, with_ops}
 use Rattle.mapdb_exchange.specs.declared.messages.Batch.{Batch as BatchOf}
 use Rattle.mapdb_exchange.specs.declared.messages.Message.{Message}
+use Rattle.mapdb_exchange.proofs.Numbering.{batches_put, fin_put}
 use Rattle.mapdb_exchange.specs.declared.messages.Message.TheVariants.{Batch, Fin}
 
 -- the first of a list, with one more
@@ -105,3 +106,6 @@ batch_taken start old new ms b before taken =
 pub fin_taken : (start held : List Op) (ms : List Message) → held ≡ start ++ ops_in ms → held ≡ start ++ ops_in (ms ++ Fin ∷ [])
 fin_taken start held ms before =
     before ∙ ap (λ (ops : List Op). start ++ ops) (sym (ops_more ms Fin ∙ append-nil (ops_in ms)))
+
+-- what one more message of a link was, and what was taken of it
+pub ruleset message_taken = (batches_put, fin_put, batch_taken, fin_taken)

@@ -151,7 +151,7 @@ impl WorkFault {
 }
 
 /// Which fault is told, where one more is met after those of which this one is told.
-#[tactic(auto, using(crate::proofs::FirstFaults::still_first, crate::proofs::FirstFaults::new_first, crate::proofs::FirstFaults::only_first))]
+#[tactic(auto, using(crate::proofs::FirstFaults::told_first))]
 fn told_of(held: Option<WorkFault>, fault: &WorkFault) -> WorkFault
     ensures { (faults : List WorkFault) → IfSome held (IsFirstFault faults)
         → IfNone held (faults ≡ [])

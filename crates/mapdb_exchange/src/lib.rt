@@ -19,6 +19,6 @@ mod workers;
 
 pub use exchange::{MOST_PROCESSORS, run};
 pub use faults::{NodeFault, RunFault};
-pub use links::{Incoming, LinkFault, MOST_CAPACITY, NextFault, Outgoing, PutFault, link, settle};
+pub use links::{Incoming, MOST_CAPACITY, NextFault, Outgoing, PutFault, link, settle};
 pub use messages::{Batch, Message, Ops};
 pub use reports::{Part, Report};

@@ -9,7 +9,7 @@ ghost use Rattle.mapdb_exchange.specs.declared.messages.Message.{Message};
 use crate::messages::Message;
 use crate::rules::{Compares, Ends, InOrder, PassView, Puts, Receives};
 use crossbeam_channel::{Pass, RuledReceiver, RuledSender, bounded_with};
-use std::alloc::Global;
+use std::alloc::{AllocError, Global};
 use std::marker::Model;
 use std::sync::Wait;
 
@@ -75,13 +75,6 @@ impl Model for Incoming {
         × ((known o.pass).receives ≡ true) × (o.is_finished ≡ has_fin (known o.pass).received) };
 }
 
-/// Why no link was made.
-#[derive(Clone, Copy, Debug, PartialEq, Eq)]
-pub enum LinkFault {
-    /// Memory was wanted.
-    Memory,
-}
-
 /// Why a message was not put. Each hands the message back, and adds nothing to what was put.
 #[derive(Drop)]
 pub enum PutFault {
@@ -100,23 +93,22 @@ pub enum NextFault {
     Gone,
 }
 
-/// The two ends of a new link, on which nothing was put. It holds at most `capacity` messages.
+/// The two ends of a new link, on which nothing was put. It holds at most `capacity` messages. The
+/// only error is out of memory.
 pub fn link<R: Wait>(
     _rt: &R,
     alloc: Global,
     capacity: usize,
-) -> Result<(Outgoing, Incoming), LinkFault>
+) -> Result<(Outgoing, Incoming), AllocError>
     requires some { 0 < capacity }
     requires most { capacity ≤ MOST_CAPACITY }
     ensures one { IfOk result (λ ends. ends.0.link ≡ ends.1.link) }
     ensures put { IfOk result (λ ends. ends.0.put ≡ []) }
     ensures received { IfOk result (λ ends. ends.1.received ≡ []) }
 {
-    let Ok((sender, receiver, mut pass)) = bounded_with::<Message, PassView, InOrder, Global>(
+    let (sender, receiver, mut pass) = bounded_with::<Message, PassView, InOrder, Global>(
         alloc, capacity,
-    ) else {
-        return Err(LinkFault::Memory);
-    };
+    )?;
     let other = sender.another::<Ends>(&mut pass);
     let outgoing = Outgoing {
         sender,

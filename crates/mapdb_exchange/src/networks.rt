@@ -61,9 +61,7 @@ fn links_from<R: Wait>(
     for inbox in inboxes {
         let to = inbox.processor;
         if to != from {
-            let Ok((outgoing, incoming)) = link(rt, alloc, capacity) else {
-                return Err(AllocError);
-            };
+            let (outgoing, incoming) = link(rt, alloc, capacity)?;
             links.push(BatchSender::new(from, to, outgoing))?;
             inbox.links.push(BatchReceiver::new(from, to, incoming))?;
         }

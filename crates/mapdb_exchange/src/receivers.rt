@@ -35,7 +35,7 @@ impl BatchReceiver {
     /// Receives until Fin, and takes each operation of each batch into the node. What was received
     /// then is batches of this link, numbered from 0 on, and Fin; and what was taken from the seat
     /// and is held is what these batches carried, in order.
-    #[tactic(auto, using(crate::proofs::Numbering::batches_put, crate::proofs::Numbering::fin_put, crate::proofs::MoreCalls::batch_taken, crate::proofs::MoreCalls::fin_taken))]
+    #[tactic(auto, using(crate::proofs::MoreCalls::message_taken))]
     pub(crate) fn receive_all<R: Wait>(
         self,
         rt: &R,

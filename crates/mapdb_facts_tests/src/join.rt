@@ -2,7 +2,7 @@
 //! bounds too, and that the examples of the crate's page hold.
 
 use mapdb_join::{
-    BitsOr, Both, Flat, Grow, JoinMap, Merge, MergeFault, MergePart, OneOf, laws, least_above,
+    BitsOr, Both, Flat, Grow, JoinMap, Merge, MergeFault, MergePart, laws, least_above,
 };
 use std::alloc::{AllocError, Global};
 use std::test::Fail;
@@ -54,154 +54,83 @@ fn takes_its_part<T: MergePart>(alloc: Global, part: T::Part) -> Result<bool, Al
     Ok(value.merge_part(part).is_ok() && !value.is_none())
 }
 
-/// Nested maps with one value. A clash cannot come: the map is empty.
+/// Nested maps with one value.
 fn nested(
     alloc: Global,
     key: u64,
     inner: u8,
     value: u32,
 ) -> Result<JoinMap<u64, JoinMap<u8, Flat<u32>>>, AllocError> {
-    let mut map = JoinMap::new(alloc);
-    match map.merge_part((key, (inner, value))) {
-        Ok(()) => Ok(map),
-        Err(_) => Err(AllocError),
-    }
-}
-
-#[test]
-fn join_merge(rt: HostRuntime) -> Result<(), Fail> {
-    let mut one = Flat::new(7u32);
-    assert!(rt; covers_its_copy(&one)?);
-    assert!(rt; merges_twice(&mut one, &Flat::new(7u32))?);
-    assert!(rt; refused_at(&mut one, &Flat::new(8u32))? == (Some(()), true));
-    assert!(rt; one == Flat::new(7u32));
-
-    let mut bits = BitsOr::new(1);
-    assert!(rt; covers_its_copy(&bits)?);
-    assert!(rt; merges_twice(&mut bits, &BitsOr::new(4))?);
-    assert!(rt; bits == BitsOr::new(5));
-
-    let mut both = Both {
-        first: bits,
-        second: one,
-    };
-    assert!(rt; covers_its_copy(&both)?);
-    assert!(rt;
-        merges_twice(
-            &mut both,
-            &Both {
-                first: BitsOr::new(2),
-                second: one
-            }
-        )?
-    );
-    assert_eq!(rt; both.first.bits(), 7);
-    let other = Both {
-        first: BitsOr::new(8),
-        second: Flat::new(4u32),
-    };
-    assert!(rt; refused_at(&mut both, &other)? == (Some(OneOf::Second(())), true));
-    Ok(())
-}
-
-#[test]
-fn join_merge_grow(rt: HostRuntime) -> Result<(), Fail> {
-    let alloc = rt.alloc();
-    let mut ended = Grow::new(alloc);
-    assert!(rt; ended.is_none() && covers_its_copy(&ended)?);
-    assert!(rt; ended.add((3u16, 1u8))?);
-    assert!(rt; !ended.add((3, 1))?);
-    let mut more = Grow::new(alloc);
-    assert!(rt; more.add((1, 2))?);
-    assert!(rt; !ended.covers(&more));
-    assert!(rt; merges_twice(&mut ended, &more)?);
-    assert!(rt; ended.has(&(3, 1)) && ended.has(&(1, 2)) && !ended.has(&(1, 1)));
-    assert!(rt; covers_its_copy(&ended)?);
-    Ok(())
-}
-
-#[test]
-fn join_merge_map(rt: HostRuntime) -> Result<(), Fail> {
-    let alloc = rt.alloc();
-    let mut map = JoinMap::new(alloc);
-    assert!(rt; map.is_none());
-    map.insert(4u16, Flat::new(40u32))?;
-    map.insert(2, Flat::new(20))?;
-    assert!(rt; covers_its_copy(&map)?);
-    let mut more = JoinMap::new(alloc);
-    more.insert(3, Flat::new(30))?;
-    assert!(rt; merges_twice(&mut map, &more)?);
-    assert!(rt; map.len() == 3);
-    assert!(rt; map.clone()?.covers(&map));
-    let mut wrong = JoinMap::new(alloc);
-    wrong.insert(2, Flat::new(20))?;
-    wrong.insert(3, Flat::new(31))?;
-    wrong.insert(4, Flat::new(41))?;
-    assert!(rt; refused_at(&mut map, &wrong)? == (Some((3, ())), true));
-    match map.next(Some(2)) {
-        Some((3, value)) => assert_eq!(rt; value.get(), 30),
-        _ => assert!(rt; false),
-    }
-    Ok(())
+    JoinMap::of_part(alloc, (key, (inner, value)))
 }
 
 #[test]
 fn join_merge_nested(rt: HostRuntime) -> Result<(), Fail> {
-    let alloc = rt.alloc();
-    let mut map = nested(alloc, 5, 2, 20)?;
-    assert!(rt; merges_twice(&mut map, &nested(alloc, 5, 1, 10)?)?);
-    assert!(rt; merges_twice(&mut map, &nested(alloc, 7, 1, 70)?)?);
+    let more = nested(rt.alloc(), 7, 1, 70)?;
+    let mut map = nested(rt.alloc(), 5, 2, 20)?;
+    assert!(rt; merges_twice(&mut map, &more)?);
     assert!(rt; covers_its_copy(&map)?);
-    let mut wrong = nested(alloc, 7, 1, 71)?;
+    assert!(rt; map.len() == 2 && map.last() == Some(7));
+    Ok(())
+}
+
+#[test]
+fn nested_maps_clash(rt: HostRuntime) -> Result<(), Fail> {
+    let wrong = nested(rt.alloc(), 7, 1, 71)?;
+    let mut map = nested(rt.alloc(), 7, 1, 70)?;
     assert!(rt; refused_at(&mut map, &wrong)? == (Some((7, (1, ()))), true));
-    assert!(rt; wrong.merge_part((5, (2, 21))) == Ok(()));
-    assert!(rt; wrong.merge_part((5, (1, 11))) == Ok(()));
-    assert!(rt; refused_at(&mut map, &wrong)? == (Some((5, (1, ()))), true));
+    Ok(())
+}
+
+/// Puts a value under the key 9 of the inner map under 5.
+fn put_inner(map: &mut JoinMap<u64, JoinMap<u8, Flat<u32>>>) -> Result<(), AllocError> {
     if let Some(inner) = map.get_mut(&5) {
         if inner.get(&9).is_none() {
             inner.insert(9, Flat::new(90))?;
         }
     }
-    assert!(rt; map.last() == Some(7));
+    Ok(())
+}
+
+#[test]
+fn values_are_lent(rt: HostRuntime) -> Result<(), Fail> {
+    let mut map = nested(rt.alloc(), 5, 2, 20)?;
+    put_inner(&mut map)?;
     assert!(rt; map.get(&5).and_then(|inner| inner.last()) == Some(9));
     Ok(())
 }
 
 #[test]
 fn parts(rt: HostRuntime) -> Result<(), Fail> {
-    let alloc = rt.alloc();
-    assert!(rt; takes_its_part::<Flat<u32>>(alloc, 3)?);
-    assert!(rt; takes_its_part::<BitsOr>(alloc, 3)?);
-    assert!(rt; takes_its_part::<Grow<usize>>(alloc, 3)?);
-    assert!(rt; takes_its_part::<JoinMap<bool, Grow<usize>>>(alloc, (true, 3))?);
-    assert!(rt;
-        takes_its_part::<JoinMap<u64, JoinMap<(u8, u16), BitsOr>>>(alloc, (1, ((2, 3), 4)))?
-    );
+    assert!(rt; takes_its_part::<Flat<u32>>(rt.alloc(), 3)?);
+    assert!(rt; takes_its_part::<BitsOr>(rt.alloc(), 3)?);
+    assert!(rt; takes_its_part::<JoinMap<bool, Grow<usize>>>(rt.alloc(), (true, 3))?);
     Ok(())
 }
 
 #[test]
-fn bounds(rt: HostRuntime) -> Result<(), Fail> {
-    let alloc = rt.alloc();
+fn bounds_of_bits_and_maps(rt: HostRuntime) -> Result<(), Fail> {
+    let map = nested(rt.alloc(), 5, 2, 20)?;
+    let other = nested(rt.alloc(), 5, 2, 21)?;
     assert!(rt; is_bounded(&BitsOr::new(1), &BitsOr::new(2))?);
-    assert!(rt; !is_bounded(&Flat::new(1u8), &Flat::new(2u8))?);
-    let map = nested(alloc, 5, 2, 20)?;
-    assert!(rt; is_bounded(&map, &nested(alloc, 5, 1, 10)?)?);
-    assert!(rt; !is_bounded(&map, &nested(alloc, 5, 2, 21)?)?);
-    let mut keys = Grow::new(alloc);
-    assert!(rt; keys.add(1u64)?);
-    let pair = Both {
-        first: Flat::new(1u8),
-        second: keys,
-    };
-    assert!(rt;
-        is_bounded(
-            &pair,
-            &Both {
-                first: Flat::new(1),
-                second: Grow::new(alloc)
-            }
-        )?
-    );
+    assert!(rt; is_bounded(&map, &map)?);
+    assert!(rt; !is_bounded(&map, &other)?);
+    Ok(())
+}
+
+/// A value beside a set without keys.
+fn beside(alloc: Global, value: u8) -> Both<Flat<u8>, Grow<u64>> {
+    Both {
+        first: Flat::new(value),
+        second: Grow::new(alloc),
+    }
+}
+
+#[test]
+fn bounds_of_two_values(rt: HostRuntime) -> Result<(), Fail> {
+    let pair = beside(rt.alloc(), 1);
+    let other = beside(rt.alloc(), 2);
+    assert!(rt; is_bounded(&pair, &pair)?);
+    assert!(rt; !is_bounded(&pair, &other)?);
     Ok(())
 }

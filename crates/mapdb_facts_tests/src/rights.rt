@@ -1,6 +1,6 @@
 //! What outside examples say of rights and frames.
 
-use mapdb_facts::{AddFault, Facts, Op, Record, RecordId, Revocation, Space};
+use mapdb_facts::{AddFault, Facts, Op, Record, RecordId, Space};
 use mapdb_fpage::{Fpage, Rights};
 use mapdb_rights::{frame_of, rights_of};
 use std::fmt::Debug;
@@ -61,51 +61,5 @@ fn right_that_the_mapper_lacks(rt: HostRuntime) -> Result<(), Fail> {
     expect(&rt, seen(&facts, id(2), 0x31), (0, None));
     expect(&rt, seen(&facts, RecordId::ROOT, 7), (7, Some(7)));
     expect(&rt, seen(&facts, RecordId::ROOT, 1 << 36), (0, None));
-    Ok(())
-}
-
-#[test]
-fn missing_parent_gives_nothing(rt: HostRuntime) -> Result<(), Fail> {
-    let child = [(one_page(2, 0x30000, id(1), 0x20, 7)?, Ok(true))];
-    let parent = [(one_page(1, 0x20000, RecordId::ROOT, 0x10, 6)?, Ok(true))];
-    let mut facts = Facts::new(rt.alloc());
-    add_all(&rt, &mut facts, &child);
-    expect(&rt, seen(&facts, id(2), 0x30), (0, None));
-    add_all(&rt, &mut facts, &parent);
-    expect(&rt, seen(&facts, id(2), 0x30), (6, Some(0x10)));
-    Ok(())
-}
-
-#[test]
-fn source_outside_parent(rt: HostRuntime) -> Result<(), Fail> {
-    let ops = [
-        (one_page(1, 0x40000, RecordId::ROOT, 0x10, 7)?, Ok(true)),
-        (one_page(2, 0x80000, id(1), 70, 7)?, Ok(true)),
-    ];
-    let mut facts = Facts::new(rt.alloc());
-    add_all(&rt, &mut facts, &ops);
-    expect(&rt, seen(&facts, id(2), 0x80), (0, None));
-    Ok(())
-}
-
-#[test]
-fn revocations_and_ends_reach_children(rt: HostRuntime) -> Result<(), Fail> {
-    let cut = Op::Cut(Revocation {
-        target: id(1),
-        part: Fpage::new(0x20000, 12)?,
-        rights: Rights::from_bits(2).ok_or("a set of rights")?,
-    });
-    let ops = [
-        (one_page(1, 0x20000, RecordId::ROOT, 0x10, 7)?, Ok(true)),
-        (one_page(2, 0x30000, id(1), 0x20, 7)?, Ok(true)),
-        (cut, Ok(true)),
-    ];
-    let end = [(Op::Closed(Space::first(1)), Ok(true))];
-    let mut facts = Facts::new(rt.alloc());
-    add_all(&rt, &mut facts, &ops);
-    expect(&rt, seen(&facts, id(1), 0x20), (5, Some(0x10)));
-    expect(&rt, seen(&facts, id(2), 0x30), (5, Some(0x10)));
-    add_all(&rt, &mut facts, &end);
-    expect(&rt, seen(&facts, id(2), 0x30), (0, Some(0x10)));
     Ok(())
 }

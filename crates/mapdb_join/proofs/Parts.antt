@@ -58,7 +58,7 @@ module _ {K V A : Type 0} {cmp : K → K → Ordering} (has : V → A → Bool) 
   refused_under (Ok u) old new k v mine left at is h = tt
   refused_under (Err (Clash s)) old new k v mine left at is h =
       (clash_up old k v mine at h.0, is ∙ ap (set_value (is_at (cmp k)) old) h.1 ∙ set_value_same (is_at (cmp k)) old mine at)
-  refused_under (Err Memory) old new k v mine left at is h =
+  refused_under (Err (Memory refused)) old new k v mine left at is h =
       ((λ c. h.0 (clash_down old k v mine at c)), is ∙ ap (set_value (is_at (cmp k)) old) h.1 ∙ set_value_same (is_at (cmp k)) old mine at)
 
 -- what a `get_mut` that answered found

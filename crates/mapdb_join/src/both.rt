@@ -67,11 +67,11 @@ impl<A: Merge, B: Merge> Merge for Both<A, B> {
         if let Some(spot) = self.clash(other) {
             return Err(MergeFault::Clash(spot));
         }
-        if self.first.merge(&other.first).is_err() {
-            return Err(MergeFault::Memory);
+        if let Err(fault) = self.first.merge(&other.first) {
+            return Err(MergeFault::Memory(fault.refusal()));
         }
-        if self.second.merge(&other.second).is_err() {
-            return Err(MergeFault::Memory);
+        if let Err(fault) = self.second.merge(&other.second) {
+            return Err(MergeFault::Memory(fault.refusal()));
         }
         Ok(())
     }

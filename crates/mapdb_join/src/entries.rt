@@ -9,6 +9,7 @@ ghost use Rattle.std.specs.BTreeMap.{insert_entry, is_at};
 ghost use Rattle.std.specs.BTreeMap.Range.{IsLeBy};
 ghost use Rattle.mapdb_join.specs.Keys.{IsAbove};
 ghost use Rattle.mapdb_join.specs.Entries.{IsChangedAt};
+ghost use Rattle.mapdb_join.specs.Held.{entries_of};
 
 use crate::exact::Exact;
 use std::alloc::{AllocError, AllocFailed, Global};
@@ -95,24 +96,17 @@ fn next_in<K: Ord + Exact, V>(tree: &BTreeMap<K, V>, after: Option<K>) -> Option
     }
 }
 
-// The tree of one entry, which comes back where memory is wanted.
+// The tree of one entry. A refusal of memory hands the entry back.
 fn tree_of<K: Ord + Exact, V: Drop>(
     alloc: Global,
     entry: Entry<K, V>,
-) -> Result<BTreeMap<K, V>, Entry<K, V>>
+) -> Result<BTreeMap<K, V>, AllocFailed<(K, V)>>
     ensures ok { IfOk result (λ tree. tree.entries ≡ (entry.key, entry.value) ∷ []) }
-    ensures err { IfErr result (λ same. same ≡ entry) }
+    ensures err { IfErr result (λ refused. refused.value ≡ (entry.key, entry.value)) }
 {
-    let Entry { key, value } = entry;
     let mut tree = BTreeMap::new(alloc);
-    match tree.insert(key, value) {
-        Ok(_) => Ok(tree),
-        Err(
-            AllocFailed {
-                value: (key, value),
-            },
-        ) => Err(Entry { key, value }),
-    }
+    tree.insert(entry.key, entry.value)?;
+    Ok(tree)
 }
 
 /// The entries of a map, in the order of their keys. A tree is made for the second one, so one
@@ -205,23 +199,40 @@ impl<K: Ord + Exact, V> Entries<K, V> {
     }
 }
 
+// A refusal that hands back a key with its value, as one of an entry.
+fn with_one<K: Ord + Exact, V>(refused: AllocFailed<(K, V)>) -> AllocFailed<Entries<K, V>>
+    ensures { entries_of result.value ≡ refused.value ∷ [] }
+{
+    let AllocFailed {
+        value: (key, value),
+    } = refused;
+    AllocFailed {
+        value: Entries::One(Entry { key, value }),
+    }
+}
+
 impl<K: Ord + Exact, V: Drop> Entries<K, V> {
     ghost use Rattle.mapdb_join.specs.Held.{entries_of};
 
-    // The entries with one more, under a key that is absent, or those that there were, where
-    // memory is wanted.
-    fn with(self, alloc: Global, key: K, value: V) -> Result<Entries<K, V>, Entries<K, V>>
+    // The entries with one more, under a key that is absent. A refusal of memory hands back those
+    // that there were.
+    fn with(
+        self,
+        alloc: Global,
+        key: K,
+        value: V,
+    ) -> Result<Entries<K, V>, AllocFailed<Entries<K, V>>>
         requires { lookup (is_at (K.cmp key)) (entries_of self) ≡ None }
         ensures ok { IfOk result
             (λ more. entries_of more ≡ insert_entry K.cmp (entries_of self) key value) }
         ensures alone { IfOk result
             (λ more. IsChangedAt K.cmp (entries_of self) (entries_of more) key value) }
-        ensures err { IfErr result (λ same. entries_of same ≡ entries_of self) }
+        ensures err { IfErr result (λ refused. entries_of refused.value ≡ entries_of self) }
     {
         let mut tree = match self {
             Entries::One(entry) => match tree_of(alloc, entry) {
                 Ok(tree) => tree,
-                Err(entry) => return Err(Entries::One(entry)),
+                Err(refused) => return Err(with_one(refused)),
             },
             Entries::Tree(tree) => tree,
         };
@@ -230,7 +241,9 @@ impl<K: Ord + Exact, V: Drop> Entries<K, V> {
         }
         match tree.insert(key, value) {
             Ok(_) => Ok(Entries::Tree(tree)),
-            Err(_) => Err(Entries::Tree(tree)),
+            Err(AllocFailed { value: _ }) => Err(AllocFailed {
+                value: Entries::Tree(tree),
+            }),
         }
     }
 
@@ -268,9 +281,9 @@ impl<K: Ord + Exact, V: Drop> Entries<K, V> {
                 *self = more;
                 Ok(())
             }
-            Err(same) => {
-                *self = same;
-                Err(AllocError)
+            Err(mut refused) => {
+                mem::swap(self, &mut refused.value);
+                Err(AllocError::from(refused))
             }
         }
     }

@@ -120,10 +120,8 @@ impl<K: Ord + Exact> Merge for Grow<K> {
             self.old other.now self.new) }
         ensures lacks { OnErr result (¬ (Includes (has_key K.cmp) self.old other.now)) }
     {
-        match add_all(&mut self.keys, &other.keys) {
-            Ok(()) => Ok(()),
-            Err(_) => Err(MergeFault::Memory),
-        }
+        add_all(&mut self.keys, &other.keys)?;
+        Ok(())
     }
 
     fn is_none(&self) -> bool {

@@ -11,12 +11,17 @@
 //! an atom that excludes an atom of the other. Exactly these have no join, nor any common upper
 //! bound. [`Merge::clash`] names the spot, and [`Merge::merge`] then changes nothing.
 //!
-//! | Type | Its atoms | What clashes | A spot | |---|---|---|---| | [`Flat<T>`](Flat) | its one
-//! value | two different values | `()` | | [`BitsOr`] | the bits that are set in a byte | nothing |
-//! `()` | | [`Grow<K>`](Grow) | its keys | nothing | `()` | | [`Runs`] | the bits of each page |
-//! nothing | `()` | | [`JoinMap<K, V>`](JoinMap) | each atom of a value, with its key | values
-//! under one key | the least such key, with the spot there | | [`Both<A, B>`](Both) | the atoms of
-//! its two parts | the parts | the part, the first one first, with the spot there |
+//! | Type | Its atoms | What clashes | A spot |
+//! |---|---|---|---|
+//! | [`Flat`] | its one value | two different values | `()` |
+//! | [`BitsOr`] | the bits that are set in a byte | nothing | `()` |
+//! | [`Grow`] | its keys | nothing | `()` |
+//! | [`Runs`] | the bits of each page | nothing | `()` |
+//! | [`JoinMap`] | each atom of a value, with its key | values under a key | a key and a spot |
+//! | [`Both`] | the atoms of its two parts | the parts | the part and a spot |
+//!
+//! The spot of a map is the least key under which values clash, with the spot there. The spot of
+//! two parts is the part, the first one first, with the spot there.
 //!
 //! # One value
 //!
@@ -88,9 +93,9 @@
 //! # Memory
 //!
 //! A value that may grow takes its allocator when it is made, and making it takes no memory. Only
-//! calls whose answer has an error take any. `merge` that wants memory leaves something between
-//! the old value and the join; every other call leaves all as it was. The one entry of a map lies
-//! in the map itself, and a tree is made for the second.
+//! calls whose answer has an error take any. A `merge` that is refused memory leaves something
+//! between the old value and the join; every other call leaves all as it was. The one entry of a
+//! map lies in the map itself, and a tree is made for the second.
 //!
 //! # Types of your own
 //!

@@ -9,7 +9,7 @@ ghost use Rattle.std.specs.BTreeMap.{insert_entry, is_at};
 ghost use Rattle.std.specs.BTreeMap.Range.{IsLeBy};
 ghost use Rattle.mapdb_join.specs.Keys.{IsAbove};
 ghost use Rattle.mapdb_join.specs.Atoms.{IsSame, IsUnion, Clashes};
-ghost use Rattle.mapdb_join.specs.Faults.{FaultLeaves};
+ghost use Rattle.mapdb_join.specs.Faults.{FaultLeaves, TellsMemory};
 ghost use Rattle.mapdb_join.specs.Entries.{has_under, holds_key, excludes_under, atoms_under};
 ghost use Rattle.mapdb_join.specs.Entries.{IsMap, IsFirstClash, IsChangedAt, IsPartMerged};
 ghost use Rattle.mapdb_join.specs.Lawful.Exact.{exact_cmp};
@@ -157,7 +157,7 @@ impl<K: Ord + Exact, V: Merge> Merge for JoinMap<K, V> {
         ensures err { IfErr result (FaultLeaves (has_under K.cmp V.has) (excludes_under V.excludes)
             (IsFirstClash K.cmp V.has V.excludes V.is_spot) self.old other.now self.new) }
         ensures keys { OnOk result (IsUnion (holds_key K.cmp) self.old other.now self.new) }
-        ensures part { IfErr result (λ fault. fault ≡ MergeFault.Memory →
+        ensures part { IfErr result (λ fault. TellsMemory fault →
             IsPartMerged K.cmp V.has self.old other.now self.new) }
     {
         if let Some(spot) = first_clash(&self.entries, &other.entries) {
@@ -165,7 +165,7 @@ impl<K: Ord + Exact, V: Merge> Merge for JoinMap<K, V> {
         }
         match merge_all(&mut self.entries, self.alloc, &other.entries) {
             Ok(()) => Ok(()),
-            Err(_) => Err(MergeFault::Memory),
+            Err(refused) => Err(MergeFault::Memory(refused)),
         }
     }
 

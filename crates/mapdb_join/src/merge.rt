@@ -3,7 +3,7 @@ ghost use Rattle.std.specs.Prelude.{◌≡◌, true, Bool, List, IsTrue, ◌↔�
 ghost use Rattle.std.specs.Prelude.{OnOk, IfErr};
 ghost use Rattle.std.specs.List.{Contains};
 ghost use Rattle.mapdb_join.specs.Atoms.{Includes, IsSame, IsUnion, HasNone, Clashes, IsExclusion};
-ghost use Rattle.mapdb_join.specs.Faults.{FaultLeaves};
+ghost use Rattle.mapdb_join.specs.Faults.{FaultLeaves, TellsMemory};
 
 use crate::exact::Representable;
 use std::alloc::AllocError;
@@ -13,9 +13,32 @@ use std::alloc::AllocError;
 pub enum MergeFault<S> {
     /// The two values clash, first at this spot. Nothing has changed.
     Clash(S),
-    /// Memory was wanted, and the values do not clash. The value has what it had, and may have
+    /// Memory was refused, and the values do not clash. The value has what it had, and may have
     /// some of the other's atoms already: its atoms lie between the old ones and the union.
-    Memory,
+    Memory(AllocError),
+}
+
+impl<S: Copy> MergeFault<S> {
+    /// The refusal of memory that the fault tells, where it tells no clash.
+    pub fn refusal(self) -> AllocError
+        requires { TellsMemory self }
+        ensures { self ≡ MergeFault.Memory result }
+    {
+        match self {
+            MergeFault::Memory(refused) => refused,
+            MergeFault::Clash(_) => unreachable!(),
+        }
+    }
+}
+
+impl<S> From<AllocError> for MergeFault<S> {
+    ghost use Rattle.mapdb_join.specs.declared.merge.MergeFault.TheVariants.{Memory};
+
+    ghost from_gives = { λ refused fault. fault ≡ Memory refused };
+
+    fn from(refused: AllocError) -> MergeFault<S> {
+        MergeFault::Memory(refused)
+    }
 }
 
 /// A value that is seen as a finite set of atoms, and merges with others of its type.

@@ -98,10 +98,8 @@ impl<K: Ord + Exact> MergePart for Grow<K> {
             self.new) }
         ensures absent { OnErr result (has_key K.cmp self.old part ≡ false) }
     {
-        match self.add(part) {
-            Ok(_) => Ok(()),
-            Err(_) => Err(MergeFault::Memory),
-        }
+        self.add(part)?;
+        Ok(())
     }
 
     fn of_part(alloc: Global, part: K) -> Result<Grow<K>, AllocError> {
@@ -133,13 +131,9 @@ fn merge_at<K: Ord + Exact, V: MergePart>(
     if let Some(mine) = map.get_mut(&key) {
         return mine.merge_part(part);
     }
-    let Ok(value) = V::of_part(alloc, part) else {
-        return Err(MergeFault::Memory);
-    };
-    match map.insert(alloc, key, value) {
-        Ok(_) => Ok(()),
-        Err(_) => Err(MergeFault::Memory),
-    }
+    let value = V::of_part(alloc, part)?;
+    map.insert(alloc, key, value)?;
+    Ok(())
 }
 
 /// The part is a key with a part of its value.

@@ -136,8 +136,8 @@ impl Merge for Runs {
     }
 
     fn merge(&mut self, other: &Runs) -> Result<(), MergeFault<()>> {
-        if let Err(_) = merge_all(&mut self.starts, self.alloc, other.starts.as_slice()) {
-            return Err(MergeFault::Memory);
+        if let Err(refused) = merge_all(&mut self.starts, self.alloc, other.starts.as_slice()) {
+            return Err(MergeFault::Memory(refused));
         }
         Ok(())
     }

@@ -161,7 +161,7 @@ fn merge_one<K: Ord + Exact, V: Merge>(
     if let Some(mine) = map.get_mut(&key) {
         return match mine.merge(value) {
             Ok(()) => Ok(()),
-            Err(_) => Err(AllocError),
+            Err(fault) => Err(fault.refusal()),
         };
     }
     let copy = value.copy()?;

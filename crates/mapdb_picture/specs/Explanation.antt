@@ -17,7 +17,7 @@ use Rattle.mapdb_facts.specs.declared.operations.Record.{Record}
 use Rattle.mapdb_rights.specs.Right.{source_page}
 use Rattle.mapdb_picture.specs.Chain.{Spot, chain}
 use Rattle.mapdb_picture.specs.Labels.{held_at, place_text, source_text}
-use Rattle.mapdb_script.specs.Reply.{frame_text, name_text, space_text}
+use Rattle.mapdb_lines.specs.Shown.{frame_text, name_text, space_text}
 
 -- a space, and whether it has ended
 abbrev pub space_state : State → Space → List ℕ

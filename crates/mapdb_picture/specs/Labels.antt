@@ -14,7 +14,7 @@ use Rattle.mapdb_facts.specs.declared.operations.Record.{Record}
 use Rattle.mapdb_facts.specs.declared.runs.CutRun.{CutRun}
 use Rattle.mapdb_rights.specs.Frame.{frame_at}
 use Rattle.mapdb_rights.specs.Right.{rights_at}
-use Rattle.mapdb_script.specs.Reply.{frame_text, name_text}
+use Rattle.mapdb_lines.specs.Shown.{frame_text, name_text}
 
 -- a place as the script has it: its byte address, a slash, and its order
 abbrev pub place_text : Place → List ℕ

@@ -13,7 +13,7 @@ use Rattle.mapdb_facts.specs.declared.operations.Record.{Record}
 use Rattle.mapdb_snapshot.specs.Cutting.{cut_names}
 use Rattle.mapdb_snapshot.specs.Snapshot.{ended_of}
 use Rattle.mapdb_picture.specs.Labels.{absent_label, record_label, root_label}
-use Rattle.mapdb_script.specs.Reply.{name_text, space_text}
+use Rattle.mapdb_lines.specs.Shown.{name_text, space_text}
 
 -- whether a line is solid, or dashed
 abbrev pub style_text : Bool → List ℕ

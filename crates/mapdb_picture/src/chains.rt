@@ -9,10 +9,10 @@ ghost use Rattle.mapdb_picture.specs.Explanation.{outside_text, record_step, roo
 ghost use Rattle.mapdb_picture.specs.Explanation.{space_state, spot_text, step_line, step_text};
 
 use crate::labels::{place_text, source_text};
-use crate::spelling::{frame_text, letters, name_text, space_text};
 use crate::steps::step_up;
 use mapdb_facts::{Facts, Record, RecordId, Space};
 use mapdb_fpage::Rights;
+use mapdb_lines::{frame_text, letters, name_text, space_text};
 use mapdb_rights::source_of;
 use std::alloc::{AllocError, Global};
 

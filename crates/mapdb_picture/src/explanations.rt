@@ -7,9 +7,9 @@ ghost use Rattle.mapdb_picture.specs.Explanation.{root_block};
 
 use crate::chains::chain_text;
 use crate::labels::held_text;
-use crate::spelling::name_text;
 use mapdb_facts::{Facts, Record, RecordId, Space};
 use mapdb_fpage::PAGE_LIMIT;
+use mapdb_lines::name_text;
 use mapdb_replica::Replica;
 use std::alloc::{AllocError, Global};
 

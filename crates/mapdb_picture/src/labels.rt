@@ -8,9 +8,9 @@ ghost use Rattle.mapdb_picture.specs.Labels.{place_text, reached_text, record_la
 ghost use Rattle.mapdb_picture.specs.Labels.{revoked_lines, root_label, run_text, said_lines};
 ghost use Rattle.mapdb_picture.specs.Labels.{source_text};
 
-use crate::spelling::{frame_text, letters, name_text};
 use mapdb_facts::{CutRun, Facts, Record, RecordId};
 use mapdb_fpage::{Fpage, PAGE_BYTES, PAGE_LIMIT, Rights};
+use mapdb_lines::{frame_text, letters, name_text};
 use mapdb_rights::{frame_of, rights_of};
 use std::alloc::{AllocError, Global};
 

@@ -9,12 +9,10 @@
 mod chains;
 mod explanations;
 mod faults;
-mod gathering;
 mod labels;
 pub mod laws;
 mod loading;
 mod pictures;
-mod spelling;
 mod steps;
 
 pub use explanations::explanation;

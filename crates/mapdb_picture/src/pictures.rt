@@ -9,11 +9,11 @@ ghost use Rattle.mapdb_picture.specs.Picture.{ended_mark, graph_of, if_absent, i
 ghost use Rattle.mapdb_picture.specs.Picture.{node_text, picture_text, record_lines, root_line};
 ghost use Rattle.mapdb_picture.specs.Picture.{style_text};
 
-use crate::gathering::{cut_names, ended_spaces};
 use crate::labels::{absent_label, record_label, root_label};
-use crate::spelling::{name_text, space_text};
 use mapdb_facts::{Facts, Op, Record, RecordId, Space};
+use mapdb_lines::{name_text, space_text};
 use mapdb_replica::Replica;
+use mapdb_snapshot::{cut_names, ended_spaces};
 use std::alloc::{AllocError, Global};
 
 /// Whether a line is solid, or dashed.
@@ -181,16 +181,6 @@ fn graph_of(
     )
 }
 
-/// The operations that the copy holds.
-fn operations(copy: &Replica) -> Result<Vec<Op>, AllocError>
-    ensures { IfOk result (λ ops. ops.items ≡ copy.now.ops) }
-{
-    match copy.give(0, copy.log_len()) {
-        Ok(ops) => Ok(ops),
-        Err(_) => Err(AllocError),
-    }
-}
-
 /// What the copy holds as Graphviz text: spaces as boxes, and in them the records, in ascending
 /// order of name, with their place and named rights, the page of their parent that they come from,
 /// the rights and the frame that they have at their first page, and what is revoked of them. A
@@ -200,8 +190,7 @@ fn operations(copy: &Replica) -> Result<Vec<Op>, AllocError>
 pub fn picture(alloc: Global, copy: &Replica) -> Result<String, AllocError>
     ensures { IfOk result (λ text. string_bytes text ≡ picture_text copy.now.ops) }
 {
-    let held = operations(copy)?;
-    let ops = held.as_slice();
+    let ops = copy.ops();
     let facts = copy.facts();
     let first = root_line(alloc, facts)?;
     let records = all_records(alloc, facts)?;

@@ -103,7 +103,7 @@ pub fn tree(alloc: Global) -> Found {
         Err(
             Stopped {
                 done,
-                fault: TreeFault::Memory,
+                fault: TreeFault::Memory(_),
             },
         ) => refused(done, failed(&mut tree)),
         Err(_) => Found::Wrong,

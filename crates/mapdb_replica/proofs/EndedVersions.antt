@@ -1,11 +1,12 @@
 -- As many versions of a number as have ended, so many operations there are.
-use Rattle.std.proofs.Common.{◌≡◌, ℕ, zero, suc, ◌+◌, ◌<◌, ◌≤◌, Bool, true, false, refl, sym, ap, subst, ◌∙◌, List, [], ◌∷◌, length, arith}
+use Rattle.std.proofs.Common.{inl, inr, ◌≡◌, ℕ, zero, suc, ◌+◌, ◌<◌, ◌≤◌, Bool, true, false, refl, sym, ap, subst, ◌∙◌, List, [], ◌∷◌, length, arith}
 use Rattle.std.specs.Prelude.{◌||◌, nat_lt, if◌then◌else◌}
 use Rattle.std.specs.List.{range_with_len}
-use Rattle.std.proofs.lemmas.Bool.{cond-false, cond-true, false≢true, ltb-false, ltb-true}
+use Rattle.std.proofs.lemmas.Bool.{and_parts, or_cases, cond-false, cond-true, false≢true, ltb-false, ltb-true}
 use Rattle.indexmap.proofs.IndexTableLemmas.Probe.{pigeonhole}
 use Rattle.mapdb_facts.specs.Names.{same_space}
 use Rattle.mapdb_facts.specs.State.{State, state_of}
+use Rattle.mapdb_facts.specs.WellFormed.{all_formed, is_formed}
 use Rattle.mapdb_facts.specs.declared.names.Space.{Space}
 use Rattle.mapdb_facts.specs.declared.operations.Op.{Op}
 use Rattle.mapdb_facts.specs.declared.operations.Op.TheVariants.{Born, Closed, Cut}
@@ -96,3 +97,21 @@ pub first_version : (ops : List Op) (number version : ℕ) → EndBefore (state_
 unfolding free_version
 first_version ops number version before lives most =
     sym (first_found (state_of ops) number 0 version (length ops + 1) before lives (omega arith) (omega (arith, most)))
+
+-- no space of the first number ends
+root_open : (ops : List Op) (version : ℕ) → all_formed ops ≡ true → (state_of ops).is_ended (versioned_space 0 version) ≡ true → ⊥
+root_open [] version formed h = false≢true h
+root_open (Born r ∷ ops) version formed h = root_open ops version (and_parts (is_formed (Born r)) (all_formed ops) formed).1 h
+root_open (Cut cut ∷ ops) version formed h = root_open ops version (and_parts (is_formed (Cut cut)) (all_formed ops) formed).1 h
+root_open (Closed other ∷ ops) version formed h =
+    let parts = and_parts (is_formed (Closed other)) (all_formed ops) formed in
+    elim (or_cases (same_space other (versioned_space 0 version)) ((state_of ops).is_ended (versioned_space 0 version)) h) [
+      | inl same ↦ false≢true (subst (λ (s : Space). is_formed (Closed s) ≡ true) (same_space_true other (versioned_space 0 version) same) parts.0)
+      | inr later ↦ root_open ops version parts.1 later
+    ]
+
+-- so its first version is the free one
+pub root_version : (ops : List Op) (number version : ℕ) → all_formed ops ≡ true → EndBefore (state_of ops) number version → number ≡ 0 → version ≡ 0
+root_version ops number zero formed before is = refl
+root_version ops number (suc version) formed before is =
+    absurd (root_open ops 0 formed (subst (λ n. (state_of ops).is_ended (versioned_space n 0) ≡ true) is (before 0 (omega arith))))

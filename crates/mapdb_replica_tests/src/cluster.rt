@@ -4,7 +4,7 @@ use crate::orders::ORDERS;
 use mapdb_cluster::{Cluster, Event, Refusal, Reply};
 use mapdb_facts::Space;
 use mapdb_fpage::{Fpage, MapItem, Rights};
-use mapdb_replica::{Command, IssueFault};
+use mapdb_replica::Command;
 use std::alloc::Global;
 use std::process::Abort;
 use std::test::Fail;
@@ -76,21 +76,18 @@ fn deliver(message: u64) -> Event {
     Event::Deliver { message, to: 1 }
 }
 
-/// Asserts what a page of a space has at a processor, with rights as bits.
+/// Asserts what a page of a space has at a processor.
 fn expect_rights(
     rt: &impl Abort,
     cluster: &Cluster,
     at: u8,
     number: u16,
     page: u64,
-    wanted: &[(u64, u8)],
+    wanted: &[(u64, Rights)],
 ) -> Result<(), Fail> {
     let copy = cluster.copy(at).ok_or("a processor")?;
     let pairs = copy.rights(space(number), page)?;
-    assert_eq!(rt; pairs.len(), wanted.len());
-    for (pair, want) in pairs.as_slice().iter().zip(wanted) {
-        assert_eq!(rt; (pair.0, pair.1.bits()), *want);
-    }
+    assert!(rt; pairs.as_slice() == wanted);
     Ok(())
 }
 
@@ -143,7 +140,7 @@ fn expect_delivered(rt: &impl Abort, alloc: Global, order: &[u32; 4]) -> Result<
     }
     let (copy, other) = (cluster.copy(0), cluster.copy(1));
     assert!(rt; copy.ok_or("copy 0")?.same(other.ok_or("copy 1")?));
-    expect_rights(rt, &cluster, 1, 2, 0x30, &[(0x10, 4)])
+    expect_rights(rt, &cluster, 1, 2, 0x30, &[(0x10, rights(4)?)])
 }
 
 #[test]
@@ -152,95 +149,6 @@ fn every_delivery_order(rt: HostRuntime) -> Result<(), Fail> {
         expect_delivered(&rt, rt.alloc(), order)?;
     }
     Ok(())
-}
-
-#[test]
-fn repeats_change_nothing(rt: HostRuntime) -> Result<(), Fail> {
-    let mut cluster = four_messages(&rt, rt.alloc())?;
-    let events = [
-        deliver(3),
-        deliver(2),
-        deliver(1),
-        deliver(0),
-        deliver(0),
-        Event::Join { into: 1, from: 1 },
-        Event::Join { into: 0, from: 1 },
-    ];
-    let replies = cluster.run(&events).ok().ok_or("enough memory")?;
-    let wanted = [1, 1, 1, 1, 0, 0, 0].map(Reply::Taken);
-    assert_eq!(rt; replies.as_slice(), wanted.as_slice());
-    Ok(())
-}
-
-/// Copy 1 has a child that copy 0 has not seen, when copy 0 unmaps.
-fn with_unseen_child(
-    rt: &impl Abort,
-    alloc: Global,
-    bits: u8,
-    flush: bool,
-) -> Result<Cluster, Fail> {
-    let mut cluster = Cluster::new(alloc, 2)?;
-    let events = [
-        map(0, 0, 0x10000, 6, 1, 0x20000)?,
-        Event::Join { into: 1, from: 0 },
-        map(1, 1, 0x20000, 6, 2, 0x30000)?,
-        unmap(0, 1, 0x20000, bits, flush)?,
-        Event::Join { into: 0, from: 1 },
-        Event::Join { into: 1, from: 0 },
-    ];
-    let replies = cluster.run(&events).ok().ok_or("enough memory")?;
-    let count = u32::from(flush);
-    let wanted = [
-        Reply::Issued { first: 1, count: 1 },
-        Reply::Taken(1),
-        Reply::Issued { first: 2, count: 1 },
-        Reply::Revoked(count),
-        Reply::Taken(1),
-        Reply::Taken(count),
-    ];
-    assert_eq!(rt; replies.as_slice(), wanted.as_slice());
-    Ok(cluster)
-}
-
-#[test]
-fn unseen_child_keep(rt: HostRuntime) -> Result<(), Fail> {
-    let cluster = with_unseen_child(&rt, rt.alloc(), 2, false)?;
-    expect_rights(&rt, &cluster, 0, 2, 0x30, &[(0x10, 6)])
-}
-
-#[test]
-fn unseen_child_flush(rt: HostRuntime) -> Result<(), Fail> {
-    let cluster = with_unseen_child(&rt, rt.alloc(), 6, true)?;
-    expect_rights(&rt, &cluster, 0, 2, 0x30, &[])?;
-    expect_rights(&rt, &cluster, 1, 2, 0x30, &[])
-}
-
-#[test]
-fn late_record_of_an_ended_space(rt: HostRuntime) -> Result<(), Fail> {
-    let mut cluster = Cluster::new(rt.alloc(), 2)?;
-    let events = [
-        map(0, 0, 0x10000, 6, 5, 0x20000)?,
-        send(0, 1),
-        end(1, 5),
-        deliver(0),
-        map(1, 0, 0x10000, 6, 5, 0x21000)?,
-        Event::Join { into: 0, from: 1 },
-    ];
-    let replies = cluster.run(&events).ok().ok_or("enough memory")?;
-    let wanted = [
-        Reply::Issued { first: 1, count: 1 },
-        Reply::Sent {
-            message: 0,
-            count: 1,
-        },
-        Reply::Ended,
-        Reply::Taken(1),
-        Reply::Refused(Refusal::Issue(IssueFault::SpaceEnded(space(5)))),
-        Reply::Taken(1),
-    ];
-    assert_eq!(rt; replies.as_slice(), wanted.as_slice());
-    expect_rights(&rt, &cluster, 0, 5, 0x20, &[])?;
-    expect_rights(&rt, &cluster, 1, 5, 0x20, &[])
 }
 
 #[test]

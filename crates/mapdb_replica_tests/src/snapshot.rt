@@ -55,29 +55,6 @@ fn expect_text(rt: &impl Abort, alloc: Global, ops: &[Op], wanted: &str) -> Resu
 }
 
 #[test]
-fn empty_copy(rt: HostRuntime) -> Result<(), Fail> {
-    let wanted = r#"{"cuts":[],"ended":[],"records":[],"version":3}"#;
-    expect_text(&rt, rt.alloc(), &[], wanted)
-}
-
-#[test]
-fn runs_are_cut_into_the_largest_places(rt: HostRuntime) -> Result<(), Fail> {
-    let ops = [
-        cut(1, 0x6000, 13, 2),
-        cut(1, 0x8000, 12, 2),
-        cut(1, 0x3000, 12, 2),
-        born(1, 0, 16, RecordId::ROOT, 0),
-        cut(1, 0x4000, 13, 2),
-        cut(1, 0x5000, 12, 2),
-    ];
-    let wanted = concat!(
-        r#"{"cuts":[[1,0,3,12,2],[1,0,4,14,2],[1,0,8,12,2]],"ended":[],"#,
-        r#""records":[[1,0,1,0,0,16,0,0,0,7]],"version":3}"#
-    );
-    expect_text(&rt, rt.alloc(), &ops, wanted)
-}
-
-#[test]
 fn one_page_of_four_flushed(rt: HostRuntime) -> Result<(), Fail> {
     let ops = [
         born(1, 0x40000, 14, RecordId::ROOT, 16),

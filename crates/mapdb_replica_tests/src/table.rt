@@ -20,11 +20,6 @@ fn place(addr: u64, order: u8) -> Option<Fpage> {
     Fpage::new(addr, order).ok()
 }
 
-/// The complete space.
-fn everything() -> Option<Fpage> {
-    Some(Fpage::complete())
-}
-
 /// A row with all rights.
 fn row(number: u16, page: u64, count: u64, frame: u64) -> TableRow {
     TableRow {
@@ -141,32 +136,5 @@ fn one_row_of_all_pages(rt: HostRuntime) -> Result<(), Fail> {
         Some((last, Rights::ALL))
     );
     assert_eq!(rt; find(rows.as_slice(), space(0), 1 << 36), None);
-    Ok(())
-}
-
-#[test]
-fn rows_of_complete_spaces(rt: HostRuntime) -> Result<(), Fail> {
-    let mut wanted = Vec::new(rt.alloc());
-    wanted.push(row(0, 0, 1 << 36, 0))?;
-    wanted.push(row(1, 0, (1 << 36) - 1, 0))?;
-    let mut copy = Replica::new(rt.alloc(), 0);
-    map(&rt, &mut copy, 0, everything(), 1, everything());
-    assert!(rt;
-        copy.unmap(space(1), place(0xffff_ffff_f000, 12), Rights::ALL, true)
-            .is_ok()
-    );
-    expect_rows(&rt, rt.alloc(), &copy, wanted.as_slice());
-    Ok(())
-}
-
-#[test]
-fn least_record_serves(rt: HostRuntime) -> Result<(), Fail> {
-    let mut wanted = Vec::new(rt.alloc());
-    wanted.push(row(0, 0, 1 << 36, 0))?;
-    wanted.push(row(1, 0x20, 1, 0x10))?;
-    let mut copy = Replica::new(rt.alloc(), 0);
-    map(&rt, &mut copy, 0, place(0x10000, 12), 1, place(0x20000, 12));
-    map(&rt, &mut copy, 0, place(0x13000, 12), 1, place(0x20000, 12));
-    expect_rows(&rt, rt.alloc(), &copy, wanted.as_slice());
     Ok(())
 }

@@ -1,13 +1,10 @@
-//! What commands leave of rights, by examples and against the plain tree.
+//! What commands leave of rights in the tree, by examples.
 
 use mapdb_facts::Space;
 use mapdb_fpage::{Fpage, MapItem, Rights};
 use mapdb_tree::{Tree, TreeFault};
 use std::alloc::Global;
 use std::test::Fail;
-
-mod plain;
-mod rows;
 
 const READ_WRITE: Rights = Rights {
     read: true,
@@ -18,12 +15,6 @@ const READ_WRITE: Rights = Rights {
 const READ: Rights = Rights {
     read: true,
     write: false,
-    execute: false,
-};
-
-const WRITE: Rights = Rights {
-    read: false,
-    write: true,
     execute: false,
 };
 
@@ -76,23 +67,6 @@ fn an_occupied_page_is_told(rt: HostRuntime) -> Result<(), Fail> {
     assert_eq!(rt; again, Err(TreeFault::Occupied(space(1), 0x20)));
     assert_eq!(rt; tree.rights(space(1), 0x20), Some((0x10, READ_WRITE)));
     assert_eq!(rt; tree.rights(space(2), 0x30), Some((0x10, READ_WRITE)));
-    Ok(())
-}
-
-#[test]
-fn an_unmapped_page_can_be_mapped_again(rt: HostRuntime) -> Result<(), Fail> {
-    let mut tree = two_steps(rt.alloc())?;
-    assert_eq!(rt;
-        tree.unmap(space(0), page(0x10), Rights::ALL, false),
-        Ok(())
-    );
-    assert_eq!(rt; tree.rights(space(1), 0x20), None);
-    assert_eq!(rt;
-        tree.map(space(0), &item(0x11, READ), space(1), page(0x20)),
-        Ok(())
-    );
-    assert_eq!(rt; tree.rights(space(1), 0x20), Some((0x11, READ)));
-    assert_eq!(rt; tree.rights(space(2), 0x30), None);
     Ok(())
 }
 
@@ -151,63 +125,5 @@ fn a_wide_unmap_is_refused(rt: HostRuntime) -> Result<(), Fail> {
         tree.unmap(space(2), wide(), Rights::ALL, true),
         Err(TreeFault::SpaceEnded(space(2)))
     );
-    Ok(())
-}
-
-#[test]
-fn one_right_is_taken(rt: HostRuntime) -> Result<(), Fail> {
-    let mut tree = two_steps(rt.alloc())?;
-    assert_eq!(rt; tree.unmap(space(1), page(0x20), WRITE, false), Ok(()));
-    assert_eq!(rt; tree.rights(space(1), 0x20), Some((0x10, READ_WRITE)));
-    assert_eq!(rt; tree.rights(space(2), 0x30), Some((0x10, READ)));
-    assert_eq!(rt; tree.unmap(space(1), page(0x20), WRITE, true), Ok(()));
-    assert_eq!(rt; tree.rights(space(1), 0x20), Some((0x10, READ)));
-    Ok(())
-}
-
-#[test]
-fn the_first_space_flushes_one_page(rt: HostRuntime) -> Result<(), Fail> {
-    let mut tree = two_steps(rt.alloc())?;
-    assert_eq!(rt; tree.unmap(space(0), page(0x10), Rights::ALL, true), Ok(()));
-    assert_eq!(rt; tree.rights(space(0), 0x10), None);
-    assert_eq!(rt; tree.rights(space(0), 0x11), Some((0x11, Rights::ALL)));
-    assert_eq!(rt; tree.rights(space(2), 0x30), None);
-    assert_eq!(rt;
-        tree.map(space(0), &item(0x10, READ), space(3), page(0x40)),
-        Ok(())
-    );
-    assert_eq!(rt; tree.rights(space(3), 0x40), None);
-    Ok(())
-}
-
-#[test]
-fn a_number_is_used_again(rt: HostRuntime) -> Result<(), Fail> {
-    let next = Space {
-        number: 1,
-        version: 1,
-    };
-    let mut tree = two_steps(rt.alloc())?;
-    tree.end(space(1))?;
-    tree.map(space(0), &item(0x11, READ), next, page(0x20))?;
-    assert_eq!(rt; tree.rights(space(1), 0x20), None);
-    assert_eq!(rt; tree.rights(space(2), 0x30), None);
-    assert_eq!(rt; tree.rights(next, 0x20), Some((0x11, READ)));
-    let again = tree.end(space(1));
-    assert_eq!(rt; again, Err(TreeFault::SpaceEnded(space(1))));
-    Ok(())
-}
-
-#[test]
-fn the_first_number_under_another_version(rt: HostRuntime) -> Result<(), Fail> {
-    let other = Space {
-        number: 0,
-        version: 1,
-    };
-    let mut tree = two_steps(rt.alloc())?;
-    let mapped = tree.map(space(0), &item(0x11, READ), other, page(0x20));
-    assert_eq!(rt; mapped, Err(TreeFault::RootSpace));
-    let ended = tree.end(other);
-    assert_eq!(rt; ended, Err(TreeFault::RootSpace));
-    assert_eq!(rt; tree.rights(other, 0x20), None);
     Ok(())
 }

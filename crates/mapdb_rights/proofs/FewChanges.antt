@@ -1,14 +1,14 @@
 -- The changes of a list: the last up to a page, the next behind it, and one more.
 use Rattle.std.proofs.Common.{◌≡◌, ℕ, zero, suc, ◌+◌, ◌<◌, ◌≤◌, Bool, true, false, refl, sym, ap, subst, ◌∙◌, List, [], ◌∷◌, ◌++◌, length, take, drop, get_or, arith, inl, inr}
-use Rattle.std.specs.Prelude.{◌⊎◌, ◌&&◌, nat_eq, nat_le, nat_lt, Option, Some, None, slice_set, if◌then◌else◌}
-use Rattle.std.proofs.lemmas.Bool.{and_from, and_parts, cases_Bool, cond-false, cond-true, eq-eqb, eqb-true, false≢true, le-leb, leb-true, lt-ltb, ltb-true, true≢false}
+use Rattle.std.specs.Prelude.{◌&&◌, nat_eq, nat_le, nat_lt, Option, Some, None, slice_set, if◌then◌else◌}
+use Rattle.std.proofs.lemmas.Bool.{and_from, and_parts, cases_Bool, cond-false, cond-true, eq-eqb, eqb-true, le-leb, leb-true, lt-ltb, ltb-true, true≢false}
 use Rattle.std.specs.BTreeMap.{BTreeMap}
 use Rattle.std.specs.List.{refill}
 use Rattle.std.proofs.Math.Seq.{take-append_seam}
 use Rattle.std.proofs.lemmas.List.{take_more}
 use Rattle.mapdb_rights.specs.declared.index.changes.Change.{Change}
 use Rattle.mapdb_rights.specs.declared.index.few_changes.PageChange.{PageChange}
-use Rattle.mapdb_rights.specs.OwnChanges.{IsFirstAt, IsLastUpTo, IsNoneUntil, is_later, listed_change, mapped_change, one_change, or_change, with_last}
+use Rattle.mapdb_rights.specs.OwnChanges.{IsLastUpTo, IsNoneUntil, is_later, listed_change, mapped_change, one_change, or_change, with_last}
 
 other_page : (a b : ℕ) → (a ≡ b → ⊥) → nat_eq a b ≡ false
 other_page a b apart = elim (cases_Bool (nat_eq a b)) [ inl same ↦ absurd (apart (eqb-true a b same)) | inr other ↦ other ]

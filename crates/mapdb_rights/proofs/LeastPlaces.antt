@@ -1,20 +1,25 @@
 -- The least of places that pass a test: found one by one, and as a search in their order shows it.
 use Rattle.std.proofs.Common.{◌≡◌, ℕ, ◌+◌, ◌<◌, Bool, true, false, cond, refl, sym, ap, subst, List, [], ◌∷◌, ◌++◌, get_or, take, length, ◌∙◌, inl, inr}
-use Rattle.std.specs.Prelude.{◌⊎◌, ◌&&◌, ◌||◌, Option, None, Some, if◌then◌else◌}
+use Rattle.std.specs.Prelude.{◌⊎◌, ◌&&◌, ◌||◌, Option, None, Some, filter, if◌then◌else◌}
 use Rattle.std.specs.BTreeMap.{is_at}
-use Rattle.std.specs.BTreeMap.Range.{IsFromStart, is_from_start}
+use Rattle.std.specs.BTreeMap.Range.{IsFromStart, is_from_start, range_contains}
 use Rattle.std.specs.BTreeSet.{BTreeSet, IsKeyRangeOf}
-use Rattle.std.specs.List.{list_any}
-use Rattle.std.specs.Ordering.{is_gt, is_lt}
+use Rattle.std.specs.List.{AllByRecursion, list_any}
+use Rattle.std.specs.List.Sorted.{IsStrictlySortedBy}
+use Rattle.std.specs.Ordering.{is_eq, is_gt, is_lt}
+use Rattle.std.specs.declared.cmp.Ordering.{Ordering}
+use Rattle.std.specs.declared.cmp.Ordering.TheVariants.{Equal, Greater, Less}
 use Rattle.std.specs.declared.ops.Bound.{Bound}
 use Rattle.std.specs.declared.ops.Bound.TheVariants.{Excluded, Included, Unbounded}
 use Rattle.std.proofs.lemmas.Bool.{and_from, and_parts, cases_Bool, true≢false}
 use Rattle.std.proofs.lemmas.List.{take_more}
 use Rattle.std.proofs.lemmas.List.Folds.{list_any_at}
+use Rattle.std.proofs.lemmas.List.Kept.{IsStrictlySortedBy-filter}
+use Rattle.std.proofs.lemmas.Map.Views.{any-filter_same}
 use Rattle.mapdb_rights.specs.declared.index.own_places.OwnPlace.{OwnPlace}
 use Rattle.mapdb_rights.specs.OwnPlaces.{IsLeast, IsLeastPlace, IsNextPlace, is_beyond, is_next, lesser_place, lesser_where, own_meets, place_cmp, stands}
 use Rattle.mapdb_rights.proofs.ListedOrder.{less_from}
-use Rattle.mapdb_rights.proofs.PlaceOrder.{at_back, exact_place, le_as, le_is, le_itself, le_on, lt_le, not_before, place_itself}
+use Rattle.mapdb_rights.proofs.PlaceOrder.{at_back, exact_place, le_as, le_is, le_itself, le_on, lt_le, not_before, place_itself, place_total}
 
 -- ---- a list with one place more
 
@@ -43,11 +48,11 @@ set_put old new p put k = put k ∙ either (is_at (place_cmp p) k) (stands old k
     either true b = refl
     either false b = refl
 
-pub set_step : (places : List OwnPlace) (i : ℕ) (d : OwnPlace) (old new : List OwnPlace) → i < length places
-    → ((k : OwnPlace) → stands new k ≡ cond (is_at (place_cmp (get_or places i d)) k) true (stands old k))
+pub many_step : (places : List OwnPlace) (i : ℕ) (d : OwnPlace) (old new : List OwnPlace) → i < length places
+    → ((k : OwnPlace) → stands new k ≡ (is_at (place_cmp (get_or places i d)) k || stands old k))
     → ((k : OwnPlace) → stands old k ≡ stands (take i places) k) → (k : OwnPlace) → stands new k ≡ stands (take (i + 1) places) k
-set_step places i d old new inside put before k =
-    set_put old new (get_or places i d) put k
+many_step places i d old new inside put before k =
+    put k
     ∙ ap (λ (b : Bool). is_at (place_cmp (get_or places i d)) k || b) (before k)
     ∙ sym (stands_more (take i places) (get_or places i d) k)
     ∙ ap (λ (l : List OwnPlace). stands l k) (sym (take_more places i d inside))
@@ -170,3 +175,70 @@ none_shown set start h k has =
       | inl so ↦ absurd (true≢false (sym has ∙ h.5 refl k (as_inside start k so, tt)))
       | inr not_so ↦ not_so
     ]
+
+-- ---- the first two, in their order
+
+sorted_rest : (p : OwnPlace) (rest : List OwnPlace) → IsStrictlySortedBy place_cmp (p ∷ rest)
+    → AllByRecursion (λ (y : OwnPlace). place_cmp p y ≡ Less) rest × IsStrictlySortedBy place_cmp rest
+unfolding IsStrictlySortedBy
+sorted_rest p rest h = h
+
+any_below : (q k : OwnPlace) (xs : List OwnPlace) → AllByRecursion (λ (y : OwnPlace). place_cmp q y ≡ Less) xs → stands xs k ≡ true → place_cmp q k ≡ Less
+any_below q k [] all has = absurd (true≢false (sym has))
+any_below q k (x ∷ xs) all has = elim (cases_Bool (is_at (place_cmp k) x)) [
+  | inl here ↦ subst (λ (y : OwnPlace). place_cmp q y ≡ Less) (sym (exact_place k x here)) all.0
+  | inr other ↦ any_below q k xs all.1 (sym (ap (λ (b : Bool). b || stands xs k) other) ∙ has)
+]
+
+module _ (set : BTreeSet OwnPlace) (start : Bound OwnPlace) (p : OwnPlace) (rest : List OwnPlace)
+    (is : p ∷ rest ≡ filter (range_contains place_cmp start Unbounded) set.keys) (ordered : IsStrictlySortedBy place_cmp set.keys)
+    (inside : IsFromStart place_cmp start p) where
+  rising : IsStrictlySortedBy place_cmp (p ∷ rest)
+  rising = subst (λ (xs : List OwnPlace). IsStrictlySortedBy place_cmp xs) (sym is) (IsStrictlySortedBy-filter place_cmp (range_contains place_cmp start Unbounded) set.keys ordered)
+
+  found_as : (k : OwnPlace) → stands (p ∷ rest) k ≡ (range_contains place_cmp start Unbounded k && stands set.keys k)
+  found_as k =
+      ap (λ (xs : List OwnPlace). stands xs k) is
+      ∙ any-filter_same (is_at (place_cmp k)) (range_contains place_cmp start Unbounded) (range_contains place_cmp start Unbounded k)
+      (λ x same. ap (range_contains place_cmp start Unbounded) (sym (exact_place k x same))) set.keys
+
+  on_from : (start : Bound OwnPlace) (k : OwnPlace) → IsFromStart place_cmp start p → place_cmp p k ≡ Less → range_contains place_cmp start Unbounded k ≡ true
+  on_from (Included a) k h less = ap (λ (b : Bool). b && true) (le_as (place_cmp a k) (le_on a p k h (ap is_gt less)))
+  on_from (Excluded a) k h less = ap (λ (b : Bool). b && true) (ap is_lt (place_total.trans a p k h less))
+  on_from Unbounded k h less = refl
+
+  in_rest : (k : OwnPlace) → stands set.keys k ≡ true → is_lt (place_cmp p k) ≡ true → stands rest k ≡ true
+  in_rest k has above =
+      sym (ap (λ (b : Bool). b || stands rest k) (at_back k p ∙ apart (place_cmp p k) above))
+      ∙ found_as k ∙ (λ i. on_from start k inside (less_from (place_cmp p k) above) i && has i)
+    where
+      apart : (o : Ordering) → is_lt o ≡ true → is_eq o ≡ false
+      apart Less h = refl
+      apart Equal h = absurd (true≢false (sym h))
+      apart Greater h = absurd (true≢false (sym h))
+
+  pub second_none : rest ≡ [] → (k : OwnPlace) → stands set.keys k ≡ true → is_lt (place_cmp p k) ≡ false
+  second_none none k has = elim (cases_Bool (is_lt (place_cmp p k))) [
+    | inl above ↦ absurd (true≢false (sym (in_rest k has above) ∙ ap (λ (xs : List OwnPlace). stands xs k) none))
+    | inr not_above ↦ not_above
+  ]
+
+  pub second_shown : (q : OwnPlace) (more : List OwnPlace) → rest ≡ q ∷ more → IsLeastPlace (is_beyond (Some p)) set.keys q
+  second_shown q more next =
+      let up = sorted_rest p (q ∷ more) (subst (λ (xs : List OwnPlace). IsStrictlySortedBy place_cmp (p ∷ xs)) next rising) in
+      let here : stands rest q ≡ true = ap (λ (xs : List OwnPlace). stands xs q) next ∙ ap (λ (b : Bool). b || stands more q) (place_itself q) in
+      record {
+        held = (and_parts (range_contains place_cmp start Unbounded q) (stands set.keys q) (sym (found_as q) ∙ later (is_at (place_cmp q) p) (stands rest q) here)).1;
+        passing = ap is_lt up.0.0;
+        least = λ k has above. by k (sym (ap (λ (xs : List OwnPlace). stands xs k) next) ∙ in_rest k has above) (sorted_rest q more up.1).0;
+      }
+    where
+      later : (a b : Bool) → b ≡ true → (a || b) ≡ true
+      later true b h = refl
+      later false b h = h
+
+      by : (k : OwnPlace) → stands (q ∷ more) k ≡ true → AllByRecursion (λ (y : OwnPlace). place_cmp q y ≡ Less) more → is_gt (place_cmp q k) ≡ false
+      by k has all = elim (cases_Bool (is_at (place_cmp k) q)) [
+        | inl same ↦ subst (λ (x : OwnPlace). is_gt (place_cmp q x) ≡ false) (sym (exact_place k q same)) (le_itself q)
+        | inr other ↦ ap is_gt (any_below q k more all (sym (ap (λ (b : Bool). b || stands more k) other) ∙ has))
+      ]

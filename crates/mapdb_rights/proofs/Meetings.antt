@@ -1,15 +1,17 @@
 -- Which places of an owner meet pages, and which come next of those that may.
 use Rattle.std.proofs.Common.{◌≡◌, ℕ, ◌+◌, ◌-◌, ◌*◌, ◌/◌, ◌%◌, ◌^◌, ◌<◌, ◌≤◌, true, false, refl, sym, ap, subst, List, ◌∙◌, arith, inl, inr, mul-le-mul_right}
-use Rattle.std.specs.Prelude.{◌⊎◌, min, max, Option, None, Some}
+use Rattle.std.specs.Prelude.{◌⊎◌, min, max, Option, None, Some, is_some}
 use Rattle.std.specs.BTreeMap.Range.{is_from_start}
 use Rattle.std.specs.Ordering.{is_gt, is_lt}
 use Rattle.std.specs.declared.ops.Bound.TheVariants.{Excluded, Included}
 use Rattle.std.proofs.lemmas.Bool.{cases_Bool, ltb-true, ltb-false, true≢false}
 use Rattle.std.proofs.lemmas.Nat.{pow_pos}
 use Rattle.mapdb_rights.specs.declared.index.own_places.OwnPlace.{OwnPlace}
-use Rattle.mapdb_rights.specs.OwnPlaces.{AreAligned, HasReached, IsAlignedPlace, IsLeast, IsReached, is_beyond, orders_ahead, own_meets, own_pages, place_cmp, stands}
+use Rattle.mapdb_rights.specs.OwnPlaces.{AreAligned, HasReached, HasReachedFrom, IsAlignedPlace, IsLeast, IsNextPlace, IsReached, is_beyond, orders_ahead, own_meets, own_pages, place_cmp, stands, start}
+use Rattle.mapdb_rights.specs.Standing.{HaveOrders, IsLeastOrder, IsNextOrder, has_order}
+use Rattle.mapdb_rights.specs.declared.index.orders.Orders.{Orders}
 use Rattle.mapdb_rights.proofs.ListedOrder.{less_from}
-use Rattle.mapdb_rights.proofs.PlaceOrder.{le_as, le_is, le_parts, lt_parts, place_total, same_or_above, start, start_le}
+use Rattle.mapdb_rights.proofs.PlaceOrder.{le_as, le_is, le_parts, lt_parts, place_total, same_or_above, start_le}
 
 -- ---- pages
 
@@ -54,20 +56,8 @@ ends_before p first end pages begins h =
 
 -- ---- what is passed
 
-later : (a b f : ℕ) → a < b → (a + 1 < b) ⊎ ((a + 1 ≡ b) × (0 ≤ f))
-later a b f h = grind arith
-
 from_above : (c k : OwnPlace) → is_beyond (Some c) k ≡ true → (c.order < k.order) ⊎ ((c.order ≡ k.order) × (c.first ≤ k.first))
 from_above c k above = le_parts c k (ap is_gt (less_from (place_cmp c k) above))
-
--- of a place's order none above it meets pages that end before it
-in_later_order : (first end : ℕ) (c k : OwnPlace) → end ≤ c.first → is_beyond (Some c) k ≡ true → own_meets k first end ≡ true
-    → is_gt (place_cmp (start (c.order + 1) 0) k) ≡ false
-in_later_order first end c k beyond above meeting =
-    elim (from_above c k above) [
-      | inl less ↦ start_le (c.order + 1) 0 k (later c.order k.order k.first less)
-      | inr both ↦ let below = meets_below k first end meeting in let later_first = both.1 in absurd (omega arith)
-    ]
 
 -- of a place's order what meets the pages begins no earlier than the place of that order that holds the first of them
 from_low : (first end : ℕ) (c k : OwnPlace) → IsAlignedPlace k → is_beyond (Some c) k ≡ true → own_meets k first end ≡ true
@@ -101,33 +91,83 @@ module _ (places : List OwnPlace) (low : OwnPlace) where
   pub not_from : (k : OwnPlace) → IsLeast (is_from_start place_cmp (Included low)) places None → stands places k ≡ true → ¬ (is_gt (place_cmp low k) ≡ false)
   not_from k h has up = true≢false (sym (le_as (place_cmp low k) up) ∙ h k has)
 
+-- ---- the first of an order on
+
+either_up : (a b : ℕ) → a ≤ b → (a < b) ⊎ (a ≡ b)
+either_up a b h = grind arith
+
+module _ (places : List OwnPlace) (orders : Orders) (aligned : AreAligned places) (have : HaveOrders places orders) (order least first end : ℕ)
+    (up_to : order ≤ least) (no_more : (m : ℕ) → order ≤ m → 12 ≤ m → least ≤ m) where
+  known_order : (k : OwnPlace) → stands places k ≡ true → has_order orders k.order ≡ true
+  known_order k has = let most = (aligned k has).at_most_all in have k has (omega arith)
+
+  module _ (next : ℕ) (is : IsLeastOrder orders least next) where
+    next_up : (k : OwnPlace) → stands places k ≡ true → order ≤ k.order → next ≤ k.order
+    next_up k has up = is.least k.order (known_order k has) (no_more k.order up (aligned k has).at_least_a_page)
+
+    abbrev begins : OwnPlace
+    begins = start next (first - first % 2 ^ (next - 12))
+
+    from_start : (k : OwnPlace) → stands places k ≡ true → order ≤ k.order → own_meets k first end ≡ true → is_gt (place_cmp begins k) ≡ false
+    from_start k has up meeting =
+        elim (either_up next k.order (next_up k has up)) [
+          | inl less ↦ start_le next (first - first % 2 ^ (next - 12)) k (inl less)
+          | inr same ↦
+              let below = meets_below k first end meeting in
+              let low : first - first % own_pages k ≤ k.first = aligned_start (own_pages k) k.first first (some_pages k) (aligned k has).aligned below.1 in
+              let at_next : first - first % 2 ^ (next - 12) ≤ k.first = subst (λ n. first - first % 2 ^ (n - 12) ≤ k.first) (sym same) low in
+              start_le next (first - first % 2 ^ (next - 12)) k (inr (same, at_next))
+        ]
+
+    order_up : (p : OwnPlace) → is_gt (place_cmp begins p) ≡ false → order ≤ p.order
+    order_up p inside =
+        let up = is.behind in
+        elim (le_parts begins p inside) [
+          | inl less ↦ omega arith
+          | inr both ↦ let same = both.0 in omega arith
+        ]
+
+    pub first_reached : (r : Option OwnPlace) → IsLeast (is_from_start place_cmp (Included begins)) places r → HasReachedFrom places order first end r
+    first_reached None h = λ k has up.
+        elim (cases_Bool (own_meets k first end)) [
+          | inl so ↦ absurd (not_from places begins k h has (from_start k has up so))
+          | inr not_so ↦ not_so
+        ]
+    first_reached (Some p) h = record {
+      held = h.held;
+      behind = order_up p (le_is (place_cmp begins p) h.passing);
+      least = λ k has up meeting. h.least k has (le_as (place_cmp begins k) (from_start k has up meeting));
+    }
+
+-- ---- what comes next
+
 module _ (places : List OwnPlace) (first end : ℕ) (c : OwnPlace) where
-  order_above : (p : OwnPlace) → is_gt (place_cmp (start (c.order + 1) 0) p) ≡ false → c.order < p.order
-  order_above p inside =
-      elim (le_parts (start (c.order + 1) 0) p inside) [
-        | inl less ↦ omega arith
-        | inr both ↦ let same = both.0 in omega arith
+  -- of a place's order none above it meets pages that end before it
+  over_order : (k : OwnPlace) → end ≤ c.first → is_beyond (Some c) k ≡ true → own_meets k first end ≡ true → c.order < k.order
+  over_order k beyond above meeting =
+      elim (from_above c k above) [
+        | inl less ↦ less
+        | inr both ↦ let below = meets_below k first end meeting in let later_first = both.1 in absurd (omega arith)
       ]
 
-  pub pass_end : (r : Option OwnPlace) → end ≤ c.first → IsLeast (is_from_start place_cmp (Included (start (c.order + 1) 0))) places r
-      → HasReached places first end (Some c) r
-  pass_end None beyond h = λ k has above.
+  pub pass_end : (r : Option OwnPlace) (order : ℕ) → end ≤ c.first → order ≤ c.order + 1 → ((k : OwnPlace) → stands places k ≡ true → order ≤ k.order → c.order < k.order)
+      → HasReachedFrom places order first end r → HasReached places first end (Some c) r
+  pass_end None order beyond up over h = λ k has above.
       elim (cases_Bool (own_meets k first end)) [
-        | inl so ↦ absurd (not_from places (start (c.order + 1) 0) k h has (in_later_order first end c k beyond above so))
+        | inl so ↦ let higher = over_order k beyond above so in absurd (true≢false (sym so ∙ h k has (omega arith)))
         | inr not_so ↦ not_so
       ]
-  pass_end (Some p) beyond h = record {
+  pass_end (Some p) order beyond up over h = record {
     held = h.held;
-    above = ap is_lt (lt_parts c p (inl (order_above p (le_is (place_cmp (start (c.order + 1) 0) p) h.passing))));
-    least = λ k has above meeting. h.least k has (le_as (place_cmp (start (c.order + 1) 0) k) (in_later_order first end c k beyond above meeting));
+    above = ap is_lt (lt_parts c p (inl (over p h.held h.behind)));
+    least = λ k has above meeting. let higher = over_order k beyond above meeting in h.least k has (omega arith) meeting;
   }
 
-  pub fewer_end : (r : Option OwnPlace) → AreAligned places → IsLeast (is_from_start place_cmp (Included (start (c.order + 1) 0))) places r
-      → orders_ahead first r < orders_ahead first (Some c)
+  pub fewer_end : (r : Option OwnPlace) → AreAligned places → HasReachedFrom places (c.order + 1) first end r → orders_ahead first r < orders_ahead first (Some c)
   fewer_end None all h = omega arith
   fewer_end (Some p) all h =
-      fewer_orders c.order p.order (p.first + own_pages p - first) (c.first + own_pages c - first)
-      (order_above p (le_is (place_cmp (start (c.order + 1) 0) p) h.passing)) (all p h.held).at_most_all
+      let up = h.behind in
+      fewer_orders c.order p.order (p.first + own_pages p - first) (c.first + own_pages c - first) (omega arith) (all p h.held).at_most_all
 
   -- ---- where it ends before the pages
 
@@ -169,15 +209,12 @@ module _ (places : List OwnPlace) (first end : ℕ) (c : OwnPlace) where
 -- ---- where the search begins
 
 module _ (places : List OwnPlace) (first end : ℕ) where
-  zero_first : (k : OwnPlace) → (0 < k.order) ⊎ ((0 ≡ k.order) × (0 ≤ k.first))
-  zero_first k = grind arith
-
-  pub begin_least : (r : Option OwnPlace) → IsLeast (is_from_start place_cmp (Included (start 0 0))) places r → HasReached places first end None r
-  begin_least None h = λ k has above. absurd (not_from places (start 0 0) k h has (start_le 0 0 k (zero_first k)))
+  pub begin_least : (r : Option OwnPlace) → HasReachedFrom places 0 first end r → HasReached places first end None r
+  begin_least None h = λ k has above. h k has (omega arith)
   begin_least (Some p) h = record {
     held = h.held;
     above = refl;
-    least = λ k has above meeting. h.least k has (le_as (place_cmp (start 0 0) k) (start_le 0 0 k (zero_first k)));
+    least = λ k has above meeting. h.least k has (omega arith) meeting;
   }
 
   pub begin_above : (after : OwnPlace) (r : Option OwnPlace) → IsLeast (is_from_start place_cmp (Excluded after)) places r → HasReached places first end (Some after) r
@@ -215,3 +252,41 @@ module _ (places : List OwnPlace) (first end : ℕ) where
     above = above_on after c p reached.above h.above;
     least = λ k has above meeting. h.least k has (beyond after c k reached apart has above meeting) meeting;
   }
+
+-- ---- the last that meets the pages
+
+-- where no order is found, all lie below
+pub no_order : (orders : Orders) (bound : ℕ) (found : Option ℕ) → IsNextOrder orders bound found → is_some found ≡ false → (k : ℕ) → has_order orders k ≡ true → k < bound
+no_order orders bound None h none k has = h k has
+no_order orders bound (Some order) h none k has = absurd (true≢false none)
+
+module _ (places : List OwnPlace) (orders : Orders) (aligned : AreAligned places) (have : HaveOrders places orders) (first end : ℕ) (p : OwnPlace) where
+  -- nothing stands above it
+  pub last_of_all : ((k : OwnPlace) → stands places k ≡ true → is_beyond (Some p) k ≡ false) → IsNextPlace places first end (Some p) None
+  last_of_all none k has above = absurd (true≢false (sym above ∙ none k has))
+
+  -- no order stands above its own, and of its own all begin behind the pages
+  pub last_of_order : (next : OwnPlace) (bound : ℕ) → bound ≤ p.order + 1 → ((next.order ≡ p.order) → end ≤ next.first)
+      → ((k : OwnPlace) → stands places k ≡ true → is_beyond (Some p) k ≡ true → is_gt (place_cmp next k) ≡ false) → is_beyond (Some p) next ≡ true
+      → ((k : ℕ) → has_order orders k ≡ true → k < bound) → IsNextPlace places first end (Some p) None
+  last_of_order next bound up no_lower least above none k has behind =
+      let most = (aligned k has).at_most_all in
+      let known = none k.order (have k has (omega arith)) in
+      elim (cases_Bool (own_meets k first end)) [
+        | inr not_so ↦ not_so
+        | inl so ↦
+            let below = (meets_below k first end so).0 in
+            elim (le_parts next k (least k has behind)) [
+              | inl less ↦ elim (from_above p next above) [
+                | inl higher ↦ absurd (omega arith)
+                | inr both ↦ let same = both.0 in absurd (omega arith)
+              ]
+              | inr alike ↦
+                  let same_order = alike.0 in
+                  let later_first = alike.1 in
+                  elim (from_above p next above) [
+                    | inl higher ↦ absurd (omega arith)
+                    | inr both ↦ let from_end = no_lower (sym both.0) in absurd (omega arith)
+                  ]
+            ]
+      ]

@@ -14,7 +14,7 @@ use Rattle.mapdb_facts.specs.Kept.{id_cmp}
 use Rattle.mapdb_facts.specs.Names.{root, same_id}
 use Rattle.mapdb_rights.specs.declared.index.own_places.OwnPlace.{OwnPlace}
 use Rattle.mapdb_rights.specs.contracts.index.own_places.OwnPlaceOrd.TheImpl as place_ord
-use Rattle.mapdb_rights.specs.OwnPlaces.{place_cmp}
+use Rattle.mapdb_rights.specs.OwnPlaces.{place_cmp, start}
 use Rattle.mapdb_rights.proofs.ListedOrder.{from_equal, id_total, less_from, root_first, three_ways, up_to}
 
 -- the order that is derived is the one that is written
@@ -75,10 +75,6 @@ lt_parts a b (inl less) = ap (λ x. ordering_then x (ordering_then (nat_cmp a.fi
 lt_parts a b (inr both) =
     ap (λ x. ordering_then x (ordering_then (nat_cmp a.first b.first) (id_cmp a.id b.id))) (from_equal a.order b.order both.0)
     ∙ ap (λ x. ordering_then x (id_cmp a.id b.id)) (from_below a.first b.first both.1)
-
--- where places begin, from an order and a first page on
-abbrev pub start : ℕ → ℕ → OwnPlace
-start order first = record { order = order; first = first; id = root }
 
 pub start_le : (order first : ℕ) (k : OwnPlace) → (order < k.order) ⊎ ((order ≡ k.order) × (first ≤ k.first)) → is_gt (place_cmp (start order first) k) ≡ false
 start_le order first k (inl less) = ap is_gt (lt_parts (start order first) k (inl less))

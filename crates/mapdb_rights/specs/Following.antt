@@ -5,16 +5,17 @@ use Rattle.mapdb_facts.specs.declared.operations.Op.{Op}
 use Rattle.mapdb_rights.specs.declared.index.changes.AllChanges.{AllChanges}
 use Rattle.mapdb_rights.specs.Caching.{AreRights}
 use Rattle.mapdb_rights.specs.Changes.{AreFrames, cached_in}
-use Rattle.mapdb_rights.specs.Listing.{AllAligned, HasPlaces}
+use Rattle.mapdb_rights.specs.Listing.{AllAligned, AreOfHeld, HasPlaces}
 use Rattle.mapdb_rights.specs.declared.index.places.Places.{Places}
 
--- each record that is held is listed, and what is listed is aligned
+-- each record that is held is listed and no other, and what is listed is aligned
 pub record AreListed (S : State) (listed : Places) : Type 0 where
   pub places : HasPlaces S listed
   pub aligned : AllAligned listed
+  pub held : AreOfHeld S listed
 
 -- What is kept stands for the state: the cached rights are those of each record at each page, where
--- there are some the frame is the record's, and each record that is held is listed.
+-- there are some the frame is the record's, and the records that are held are listed.
 pub record Stands (changes : AllChanges) (listed : Places) (S : State) : Type 0 where
   pub rights : AreRights S (cached_in changes.own.entries)
   pub frames : AreFrames S changes.own.entries

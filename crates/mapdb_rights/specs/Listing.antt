@@ -1,6 +1,6 @@
 -- Whose places are listed, and which of them meet pages.
 use Rattle.std.specs.Prelude.{◌≡◌, ℕ, Bool, true, false, List, [], ◌∷◌, ◌++◌, length, map, Option}
-use Rattle.std.specs.Prelude.{Some, None, count_by}
+use Rattle.std.specs.Prelude.{Some, None, count_by, ◌⊎◌}
 use Rattle.std.specs.BTreeMap.Range.{IsFromStart, IsLeBy}
 use Rattle.std.specs.Map.{lookup}
 use Rattle.std.specs.Ordering.{is_lt, nat_cmp, ordering_then}
@@ -13,8 +13,10 @@ use Rattle.mapdb_facts.specs.Looking.{Holds}
 use Rattle.mapdb_facts.specs.Names.{same_id, same_space}
 use Rattle.mapdb_facts.specs.State.{State}
 use Rattle.mapdb_facts.specs.declared.operations.Record as operations
+use Rattle.mapdb_rights.specs.declared.index.own_places.FoundPlace.{FoundPlace}
 use Rattle.mapdb_rights.specs.declared.index.own_places.OwnPlace.{OwnPlace}
 use Rattle.mapdb_rights.specs.declared.index.own_places.OwnPlaces.{OwnPlaces}
+use Rattle.mapdb_rights.specs.declared.index.places.FoundEntry.{FoundEntry}
 use Rattle.mapdb_rights.specs.declared.index.places.Listed.{Listed}
 use Rattle.mapdb_rights.specs.declared.index.places.Owner.{Owner}
 use Rattle.mapdb_rights.specs.declared.index.places.Owner.TheVariants.{Record, Space}
@@ -101,6 +103,16 @@ pub record IsListed (set : Places) (r : operations.Record) : Type 0 where
 abbrev pub HasPlaces : State → Places → Type 0
 HasPlaces S set = (r : operations.Record) → Holds S r → IsListed set r
 
+-- a held record whose place or whose source the entry is
+pub record IsOfHeld (S : State) (e : Listed) : Type 0 where
+  pub r : operations.Record
+  pub held : Holds S r
+  pub is : (e ≡ place_of r) ⊎ (e ≡ source_of r)
+
+-- nothing is listed but held records
+abbrev pub AreOfHeld : State → Places → Type 0
+AreOfHeld S set = (e : Listed) → is_listed set e ≡ true → IsOfHeld S e
+
 -- how many pages the entry has
 abbrev pub pages_of : Listed → ℕ
 pages_of e = own_pages (own_place e)
@@ -136,6 +148,19 @@ abbrev pub IsNextMeeting : Places → Owner → ℕ → ℕ → Option Listed �
 IsNextMeeting set owner first end after None = (k : Listed) → is_listed set k ≡ true
     → k.owner ≡ owner → is_above after k ≡ true → meets k first end ≡ false
 IsNextMeeting set owner first end after (Some e) = IsLeastMeeting set owner first end after e
+
+-- the entry that was found
+abbrev pub found_entry : FoundEntry → Listed
+found_entry found = found.entry
+
+-- where it is said to be the last, none of the owner behind it meets the pages
+abbrev pub IsLastEntryWhereSaid : Places → Owner → ℕ → ℕ → FoundEntry → Type 0
+IsLastEntryWhereSaid set owner first end found = found.last ≡ true
+    → IsNextMeeting set owner first end (Some found.entry) None
+
+-- a place that was found as the owner's
+abbrev pub found_for : Owner → FoundPlace → FoundEntry
+found_for owner found = record { entry = listed_for owner found.place; last = found.last }
 
 -- how many entries stand after another, or how many there are
 abbrev pub left_above : Places → Option Listed → ℕ

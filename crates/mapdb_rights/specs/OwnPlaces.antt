@@ -1,31 +1,21 @@
 -- The places of one owner, how they are ordered, and which of them meet pages.
 use Rattle.std.specs.Prelude.{◌≡◌, ℕ, Bool, true, false, ◌&&◌, ◌+◌, ◌-◌, ◌*◌, ◌%◌, ◌^◌, ◌≤◌, ◌<◌}
 use Rattle.std.specs.Prelude.{nat_lt, min, max, List, Option, Some, None, if◌then◌else◌}
-use Rattle.std.specs.BTreeMap.{is_at}
 use Rattle.std.specs.BTreeMap.Range.{IsLeBy}
-use Rattle.std.specs.List.{list_any}
-use Rattle.std.specs.Ordering.{is_lt, nat_cmp, ordering_then}
-use Rattle.std.specs.declared.cmp.Ordering.{Ordering}
+use Rattle.std.specs.Ordering.{is_lt}
 use Rattle.mapdb_fpage.specs.Bounds.{least_order, page_limit, top_order}
-use Rattle.mapdb_facts.specs.Kept.{id_cmp}
+use Rattle.mapdb_facts.specs.Names.{root}
+pub use Rattle.mapdb_rights.specs.Standing.{place_cmp, stands}
+use Rattle.mapdb_rights.specs.declared.index.own_places.FoundPlace.{FoundPlace}
 use Rattle.mapdb_rights.specs.declared.index.own_places.OwnPlace.{OwnPlace}
 use Rattle.mapdb_rights.specs.declared.index.own_places.OwnPlaces.{OwnPlaces}
 use Rattle.mapdb_rights.specs.declared.index.own_places.OwnPlaces.TheVariants.{Few, Many}
-
--- by the order, the first page and the record's name
-abbrev pub place_cmp : OwnPlace → OwnPlace → Ordering
-place_cmp a b =
-    ordering_then (nat_cmp a.order b.order)
-    (ordering_then (nat_cmp a.first b.first) (id_cmp a.id b.id))
+use Rattle.mapdb_rights.specs.declared.index.place_sets.Spot.{Spot}
 
 -- the places of the owner, each once or more
 abbrev pub own_list : OwnPlaces → List OwnPlace
 own_list (Few list) = list.items
-own_list (Many set) = set.keys
-
--- the place is one of these
-abbrev pub stands : List OwnPlace → OwnPlace → Bool
-stands places p = list_any (is_at (place_cmp p)) places
+own_list (Many many) = many.places.keys
 
 -- the least of the places that pass a test
 pub record IsLeastPlace (test : OwnPlace → Bool) (places : List OwnPlace) (p : OwnPlace)
@@ -103,6 +93,41 @@ abbrev pub HasReached : List OwnPlace → ℕ → ℕ → Option OwnPlace → Op
 HasReached places first end after None = (k : OwnPlace) → stands places k ≡ true
     → is_beyond after k ≡ true → own_meets k first end ≡ false
 HasReached places first end after (Some p) = IsReached places first end after p
+
+-- a place of an order from one on, with none of these before it that meets the pages
+pub record IsReachedFrom (places : List OwnPlace) (order first end : ℕ) (p : OwnPlace)
+    : Type 0 where
+  pub held : stands places p ≡ true
+  pub behind : order ≤ p.order
+  pub least : (k : OwnPlace) → stands places k ≡ true → order ≤ k.order
+      → own_meets k first end ≡ true → IsLeBy place_cmp p k
+
+-- such a place, or none of these meets the pages
+abbrev pub HasReachedFrom : List OwnPlace → ℕ → ℕ → ℕ → Option OwnPlace → Type 0
+HasReachedFrom places order first end None = (k : OwnPlace) → stands places k ≡ true
+    → order ≤ k.order → own_meets k first end ≡ false
+HasReachedFrom places order first end (Some p) = IsReachedFrom places order first end p
+
+-- where places begin, from an order and a first page on
+abbrev pub start : ℕ → ℕ → OwnPlace
+start order first = record { order = order; first = first; id = root }
+
+-- the place of a spot
+abbrev pub spot_place : Spot → OwnPlace
+spot_place spot = spot.place
+
+-- what comes behind the place is the least above it
+abbrev pub IsBehind : List OwnPlace → Spot → Type 0
+IsBehind places spot = IsLeast (is_beyond (Some spot.place)) places spot.next
+
+-- the place that was found
+abbrev pub found_place : FoundPlace → OwnPlace
+found_place found = found.place
+
+-- where it is said to be the last, none behind it meets the pages
+abbrev pub IsLastWhereSaid : List OwnPlace → ℕ → ℕ → FoundPlace → Type 0
+IsLastWhereSaid places first end found = found.last ≡ true
+    → IsNextPlace places first end (Some found.place) None
 
 -- the orders from a place's own on, counted twice, and one more where it ends before the first page
 abbrev pub orders_left : ℕ → OwnPlace → ℕ

@@ -1,14 +1,5 @@
-//! What scripts write, and what a run makes of readers and writers that give little or fail.
+//! What a run makes of readers and writers that give little or fail, and the commands of scripts
+//! for threads. What scripts write stands in `tests/rows`.
 
-mod examples;
-mod messages;
-mod rows;
-mod sizes;
-mod snapshots;
 mod streams;
-mod tables;
 mod threads;
-mod tree;
-mod unmapping;
-mod versions;
-mod words;

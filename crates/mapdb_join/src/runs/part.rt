@@ -18,9 +18,7 @@ impl MergePart for Runs {
     ghost alone = { starts_of };
 
     fn merge_part(&mut self, part: Region) -> Result<(), MergeFault<()>> {
-        if let Err(_) = self.add(part.first(), part.count(), part.bits()) {
-            return Err(MergeFault::Memory);
-        }
+        self.add(part.first(), part.count(), part.bits())?;
         Ok(())
     }
 

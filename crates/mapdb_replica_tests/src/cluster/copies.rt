@@ -97,21 +97,7 @@ fn cut(target: RecordId, addr: u64, s: u8, bits: u8) -> Op {
 
 /// Does a command at a copy, and answers why it was refused.
 fn command(copy: &mut Replica, command: &Command) -> Option<IssueFault> {
-    match *command {
-        Command::Map {
-            sender,
-            item,
-            receiver,
-            window,
-        } => copy.map(sender, &item, receiver, window).err(),
-        Command::Unmap {
-            space,
-            page,
-            rights,
-            flush,
-        } => copy.unmap(space, page, rights, flush).err(),
-        Command::End { space } => copy.end(space).err(),
-    }
+    copy.apply(command).err()
 }
 
 /// Does a command at a copy, and asserts how many operations it issued.
@@ -135,15 +121,16 @@ fn refuse_all(rt: &impl Abort, copy: &mut Replica, commands: &[(Command, IssueFa
     }
 }
 
-/// Asserts what a page of a space has, with rights as bits.
-fn expect_rights(rt: &impl Abort, copy: &Replica, number: u16, page: u64, wanted: &[(u64, u8)]) {
+/// Asserts what a page of a space has.
+fn expect_rights(
+    rt: &impl Abort,
+    copy: &Replica,
+    number: u16,
+    page: u64,
+    wanted: &[(u64, Rights)],
+) {
     match copy.rights(space(number), page) {
-        Ok(pairs) => {
-            assert_eq!(rt; pairs.len(), wanted.len());
-            for (pair, want) in pairs.as_slice().iter().zip(wanted) {
-                assert_eq!(rt; (pair.0, pair.1.bits()), *want);
-            }
-        }
+        Ok(pairs) => assert!(rt; pairs.as_slice() == wanted),
         Err(_) => panic!(rt; "no memory for the rights of a page"),
     }
 }
@@ -152,7 +139,9 @@ fn expect_rights(rt: &impl Abort, copy: &Replica, number: u16, page: u64, wanted
 fn expect_pages(rt: &impl Abort, copy: &Replica, pages: &[(u16, u64, Option<(u64, u8)>)]) {
     for (number, page, wanted) in pages {
         match wanted {
-            Some(pair) => expect_rights(rt, copy, *number, *page, &[*pair]),
+            Some((frame, bits)) => {
+                expect_rights(rt, copy, *number, *page, &[(*frame, rights(*bits))]);
+            }
             None => expect_rights(rt, copy, *number, *page, &[]),
         }
     }

@@ -2,7 +2,7 @@
 
 ghost use Rattle.std.specs.Prelude.{◌≡◌, [], OnOk};
 ghost use Rattle.mapdb_facts.specs.Facts.{state_of_facts};
-ghost use Rattle.mapdb_rights.specs.Listing.{AllAligned};
+ghost use Rattle.mapdb_rights.specs.Listing.{AllAligned, AreOfHeld};
 ghost use Rattle.mapdb_rights.specs.Following.{Stands};
 
 use super::changes::AllChanges;
@@ -24,6 +24,7 @@ pub fn settle_all(
 ) -> Result<(), AllocError>
     requires changes { changes.old.own.entries ≡ [] }
     requires listed { AllAligned listed.old }
+    requires held { AreOfHeld (state_of_facts facts.now) listed.old }
     ensures { OnOk result (Stands changes.new listed.new (state_of_facts facts.now)) }
 {
     facts.prove_held();

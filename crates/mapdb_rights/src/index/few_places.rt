@@ -1,12 +1,12 @@
 //! The least of a few places, found by looking at each.
 
-ghost use Rattle.std.specs.Prelude.{◌≡◌};
+ghost use Rattle.std.specs.Prelude.{◌≡◌, IfSome, option_map};
 ghost use Rattle.std.specs.BTreeMap.Range.{is_from_start};
-ghost use Rattle.mapdb_rights.specs.OwnPlaces.{AreAligned, IsAlignedPlace, IsLeast, IsNextPlace};
-ghost use Rattle.mapdb_rights.specs.OwnPlaces.{is_beyond, is_next, lesser_place, lesser_where};
-ghost use Rattle.mapdb_rights.specs.OwnPlaces.{place_cmp};
+ghost use Rattle.mapdb_rights.specs.OwnPlaces.{AreAligned, IsAlignedPlace, IsLastWhereSaid};
+ghost use Rattle.mapdb_rights.specs.OwnPlaces.{IsLeast, IsNextPlace, found_place, is_beyond};
+ghost use Rattle.mapdb_rights.specs.OwnPlaces.{is_next, lesser_place, lesser_where, place_cmp};
 
-use super::own_places::OwnPlace;
+use super::own_places::{FoundPlace, OwnPlace};
 use std::ops::Bound;
 
 /// The lesser of two places, where there is another.
@@ -86,7 +86,7 @@ fn lesser_meeting(
 }
 
 /// The least of the places, above another, that meets the pages from `first` on up to before `end`.
-pub(crate) fn least_meeting(
+fn least_meeting(
     places: &[OwnPlace],
     first: u64,
     end: u64,
@@ -100,4 +100,21 @@ pub(crate) fn least_meeting(
         found = lesser_meeting(found, first, end, after, *place);
     }
     found
+}
+
+/// The least of the places, above another, that meets the pages from `first` on up to before `end`,
+/// and whether it is the last.
+pub(crate) fn found_meeting(
+    places: &[OwnPlace],
+    first: u64,
+    end: u64,
+    after: Option<OwnPlace>,
+) -> Option<FoundPlace>
+    requires { AreAligned places.now }
+    ensures next { IsNextPlace places.now first end after (option_map found_place result) }
+    ensures last { IfSome result (IsLastWhereSaid places.now first end) }
+{
+    let place = least_meeting(places, first, end, after)?;
+    let last = least_meeting(places, first, end, Some(place)).is_none();
+    Some(FoundPlace { place, last })
 }

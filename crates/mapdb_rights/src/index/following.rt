@@ -14,7 +14,7 @@ ghost use Rattle.mapdb_rights.specs.Following.{Stood, Stands};
 
 use super::changes::AllChanges;
 use super::children::push_space;
-use super::listing::list_record;
+use super::listing::list_held;
 use super::places::Places;
 use super::settling::settle;
 use super::stale::Stale;
@@ -33,7 +33,7 @@ pub fn follow_record(
     requires stood { Stood changes.old listed.old (Op.Born mapping.now) (state_of_facts facts.now) }
     ensures { OnOk result (Stands changes.new listed.new (state_of_facts facts.now)) }
 {
-    list_record(listed, mapping)?;
+    list_held(listed, facts, mapping.id)?;
     let mut stack = Vec::new(alloc);
     stack.push(Stale {
         id: mapping.id,

@@ -1,14 +1,16 @@
 //! Which places are listed: each held record at its place, and at its source.
 
-ghost use Rattle.std.specs.Prelude.{◌≡◌, true, OnOk};
+ghost use Rattle.std.specs.Prelude.{◌≡◌, ◌⊎◌, true, OnOk, Some};
 ghost use Rattle.mapdb_facts.specs.Facts.{state_of_facts};
 ghost use Rattle.mapdb_facts.specs.WellFormed.{IsFormedRecord};
+ghost use Rattle.mapdb_facts.specs.declared.operations.Record.{Record};
 ghost use Rattle.mapdb_rights.specs.Following.{AreListed};
-ghost use Rattle.mapdb_rights.specs.Listing.{AllAligned, IsAligned, IsListed, is_listed};
+ghost use Rattle.mapdb_rights.specs.Listing.{AllAligned, AreOfHeld, IsAligned, IsListed};
+ghost use Rattle.mapdb_rights.specs.Listing.{is_listed, place_of, source_of};
 ghost use Rattle.mapdb_rights.specs.declared.index.places.Listed.{Listed};
 
 use super::places::{Listed, Owner, Places};
-use mapdb_facts::{Facts, Record};
+use mapdb_facts::{Facts, Record, RecordId};
 use std::alloc::AllocError;
 
 /// Lists one place more.
@@ -19,6 +21,8 @@ fn list_place(listed: &mut Places, place: Listed) -> Result<(), AllocError>
     ensures there { OnOk result (is_listed listed.new place ≡ true) }
     ensures kept { OnOk result ((other : Listed) → is_listed listed.old other ≡ true
         → is_listed listed.new other ≡ true) }
+    ensures no_more { OnOk result ((other : Listed) → is_listed listed.new other ≡ true
+        → (other ≡ place) ⊎ (is_listed listed.old other ≡ true)) }
 {
     listed.insert(place)?;
     Ok(())
@@ -33,6 +37,9 @@ pub(crate) fn list_record(listed: &mut Places, mapping: &Record) -> Result<(), A
     ensures there { OnOk result (IsListed listed.new mapping.now) }
     ensures kept { OnOk result ((other : Listed) → is_listed listed.old other ≡ true
         → is_listed listed.new other ≡ true) }
+    ensures no_more { OnOk result ((other : Listed) → is_listed listed.new other ≡ true
+        → (other ≡ place_of mapping.now) ⊎ (other ≡ source_of mapping.now)
+        ⊎ (is_listed listed.old other ≡ true)) }
 {
     let order = mapping.place.order();
     let source = Listed {
@@ -51,9 +58,27 @@ pub(crate) fn list_record(listed: &mut Places, mapping: &Record) -> Result<(), A
     list_place(listed, place)
 }
 
+/// Lists the record that is held under a name, where there is one.
+pub(crate) fn list_held(listed: &mut Places, facts: &Facts, id: RecordId) -> Result<(), AllocError>
+    requires aligned { AllAligned listed.old }
+    requires held { AreOfHeld (state_of_facts facts.now) listed.old }
+    ensures aligned { OnOk result (AllAligned listed.new) }
+    ensures there { OnOk result ((r : Record) → (state_of_facts facts.now).record_at id ≡ Some r
+        → IsListed listed.new r) }
+    ensures kept { OnOk result ((other : Listed) → is_listed listed.old other ≡ true
+        → is_listed listed.new other ≡ true) }
+    ensures held { OnOk result (AreOfHeld (state_of_facts facts.now) listed.new) }
+{
+    match facts.record(id) {
+        Some(mapping) => list_record(listed, &mapping),
+        None => Ok(()),
+    }
+}
+
 /// Lists each held record.
 pub(crate) fn list_records(listed: &mut Places, facts: &Facts) -> Result<(), AllocError>
-    requires { AllAligned listed.old }
+    requires aligned { AllAligned listed.old }
+    requires held { AreOfHeld (state_of_facts facts.now) listed.old }
     ensures { OnOk result (AreListed (state_of_facts facts.now) listed.new) }
 {
     let mut after = None;

@@ -1,6 +1,6 @@
 //! The records of a space that have a right at a page, found among the places that hold it.
 
-ghost use Rattle.std.specs.Prelude.{◌≡◌, ◌&&◌, not, IfOk};
+ghost use Rattle.std.specs.Prelude.{◌≡◌, ◌&&◌, not, true, IfOk};
 ghost use Rattle.mapdb_facts.specs.Facts.{records_of_facts, state_of_facts};
 ghost use Rattle.mapdb_facts.specs.Names.{is_after, is_first_space, root};
 ghost use Rattle.mapdb_fpage.specs.Bounds.{page_limit};
@@ -12,6 +12,7 @@ ghost use Rattle.mapdb_rights.specs.Listing.{IsFirstInside};
 ghost use Rattle.mapdb_rights.specs.Live.{IsLive, IsLiveFrom, live_names};
 ghost use Rattle.mapdb_rights.specs.PageRights.{is_record_into};
 ghost use Rattle.mapdb_rights.specs.Right.{rights_at};
+ghost use Rattle.mapdb_rights.specs.declared.index.places.Owner.TheVariants as owners;
 
 use super::changes::{AllChanges, cached_at};
 use super::places::{Listed, Owner, Places};
@@ -54,17 +55,7 @@ fn name_after(listed: &Places, place: Listed, after: Option<RecordId>) -> Option
     }
 }
 
-/// Whether the name is that of a record into the space.
-pub(crate) fn is_into(facts: &Facts, space: Space, id: RecordId) -> bool
-    ensures { result ≡ is_record_into ((state_of_facts facts.now).record_at id) space }
-{
-    match facts.record(id) {
-        Some(mapping) => mapping.space.is(space),
-        None => false,
-    }
-}
-
-/// Whether the name is that of a record into the space with a right at the page.
+/// Whether the name, which is that of a record into the space, has a right at the page.
 fn is_shown(
     changes: &AllChanges,
     listed: &Places,
@@ -73,10 +64,11 @@ fn is_shown(
     page: u64,
     id: RecordId,
 ) -> bool
-    requires { Stands changes.now listed.now (state_of_facts facts.now) }
+    requires stands { Stands changes.now listed.now (state_of_facts facts.now) }
+    requires into { is_record_into ((state_of_facts facts.now).record_at id) space ≡ true }
     ensures { result ≡ is_shown (state_of_facts facts.now) space page id }
 {
-    is_into(facts, space, id) && !cached_at(changes, id, page).is_none()
+    !cached_at(changes, id, page).is_none()
 }
 
 /// The least of the names at a place above another, or of all, whose records of the space have a
@@ -90,7 +82,8 @@ fn shown_after(
     place: Listed,
     after: Option<RecordId>,
 ) -> Option<RecordId>
-    requires { Stands changes.now listed.now (state_of_facts facts.now) }
+    requires stands { Stands changes.now listed.now (state_of_facts facts.now) }
+    requires owned { place.owner ≡ owners.Space space }
     ensures { IsLeastOf (IsShown (state_of_facts facts.now) space page)
         (IsShownAt listed.now (state_of_facts facts.now) space page place) after result }
 {

@@ -9,9 +9,9 @@ ghost use Rattle.mapdb_rights.specs.Changes.{seen_in};
 ghost use Rattle.mapdb_rights.specs.Following.{Stands};
 ghost use Rattle.mapdb_rights.specs.Live.{IsLive};
 ghost use Rattle.mapdb_rights.specs.Lone.{IsFound, IsLone, IsWithin, lone_where, lone_with};
+ghost use Rattle.mapdb_rights.specs.PageRights.{is_record_into};
 
 use super::changes::{AllChanges, Change, seen_at};
-use super::live_names::is_into;
 use super::places::{Owner, Places};
 use mapdb_facts::{Facts, RecordId, Space};
 
@@ -55,8 +55,8 @@ fn root_alone(changes: &AllChanges, listed: &Places, facts: &Facts, space: Space
     Lone::One(RecordId::ROOT, change)
 }
 
-/// What was found, with a record of this name, where it is of the space and has a right at the
-/// page.
+/// What was found, with the record of this name, which is one of the space, where it has a right at
+/// the page.
 fn with_record(
     found: Lone,
     changes: &AllChanges,
@@ -66,12 +66,13 @@ fn with_record(
     page: u64,
     id: RecordId,
 ) -> Lone
-    requires { Stands changes.now listed.now (state_of_facts facts.now) }
+    requires stands { Stands changes.now listed.now (state_of_facts facts.now) }
+    requires into { is_record_into ((state_of_facts facts.now).record_at id) space ≡ true }
     ensures { result ≡ lone_where (is_shown (state_of_facts facts.now) space page id) id
         (seen_in changes.now.own.entries id page) found }
 {
     let change = seen_at(changes, id, page);
-    if !is_into(facts, space, id) || change.rights.is_none() {
+    if change.rights.is_none() {
         return found;
     }
     found.with(id, change)
@@ -94,8 +95,12 @@ pub(crate) fn lone_live(
     let end = page.saturating_add(1);
     let mut found = root_alone(changes, listed, facts, space, page);
     let mut passed = None;
-    'entries: while let Some(entry) = listed.next_meeting(owner, page, end, passed) {
+    'entries: while let Some(next) = listed.next_found(owner, page, end, passed) {
+        let entry = next.entry;
         found = with_record(found, changes, listed, facts, space, page, entry.id);
+        if next.last {
+            return found;
+        }
         if let Lone::Several = found {
             return Lone::Several;
         }

@@ -1,101 +1,157 @@
-//! The least of many places, found in their order.
+//! Many places of an owner, found in their order.
 
-ghost use Rattle.std.specs.Prelude.{◌≡◌, ◌≤◌, ◌<◌, ℕ, true, false, Some};
-ghost use Rattle.std.specs.BTreeMap.Range.{is_from_start};
-ghost use Rattle.std.specs.declared.ops.Bound.TheVariants.{Excluded, Included};
-ghost use Rattle.mapdb_rights.specs.OwnPlaces.{AreAligned, HasReached, IsLeast, IsNextPlace};
-ghost use Rattle.mapdb_rights.specs.OwnPlaces.{orders_ahead, own_meets, place_cmp, stands};
+ghost use Rattle.mapdb_rights.specs.Standing.{HaveOrders};
 
-use super::own_places::{OwnPlace, pages_of_order};
-use mapdb_facts::RecordId;
+use super::orders::Orders;
+use super::own_places::{FoundPlace, OwnPlace};
+use super::place_sets::{Spot, set_above, set_from, start_of};
+use mapdb_fpage::{LEAST_ORDER, TOP_ORDER};
+use std::alloc::{AllocError, Global};
 use std::collections::BTreeSet;
-use std::ops::Bound;
 
-/// The least place from one on.
-pub(crate) fn set_from(set: &BTreeSet<OwnPlace>, from: OwnPlace) -> Option<OwnPlace>
-    ensures { IsLeast (is_from_start place_cmp (Included from)) set.now.keys result }
-{
-    match set.range((Bound::Included(&from), Bound::Unbounded)).next() {
-        Some(place) => Some(*place),
-        None => None,
-    }
+/// Many places of an owner, in ascending order, and which orders they have.
+#[derive(Drop)]
+pub struct ManyPlaces {
+    places: BTreeSet<OwnPlace>,
+    orders: Orders,
+    ghost ordered: { HaveOrders places.keys orders },
 }
 
-/// The least place above one.
-pub(crate) fn set_above(set: &BTreeSet<OwnPlace>, after: OwnPlace) -> Option<OwnPlace>
-    ensures { IsLeast (is_from_start place_cmp (Excluded after)) set.now.keys result }
-{
-    match set
-        .range((Bound::Excluded(&after), Bound::Unbounded))
-        .next()
+impl ManyPlaces {
+    ghost use Rattle.std.specs.Prelude.{◌≡◌, ◌<◌, ◌||◌, ℕ, IfSome, OnOk, [], false, None, Some};
+    ghost use Rattle.std.specs.Prelude.{option_map, true};
+    ghost use Rattle.std.specs.BTreeMap.{is_at};
+    ghost use Rattle.std.specs.BTreeMap.Range.{is_from_start};
+    ghost use Rattle.std.specs.declared.ops.Bound.TheVariants.{Excluded, Included};
+    ghost use Rattle.mapdb_rights.specs.OwnPlaces.{AreAligned, HasReached, HasReachedFrom};
+    ghost use Rattle.mapdb_rights.specs.OwnPlaces.{IsBehind, IsLastWhereSaid, IsLeast};
+    ghost use Rattle.mapdb_rights.specs.OwnPlaces.{IsNextPlace, found_place, orders_ahead};
+    ghost use Rattle.mapdb_rights.specs.OwnPlaces.{own_meets, place_cmp, spot_place, stands};
+    ghost use Rattle.mapdb_rights.specs.declared.index.own_places.OwnPlace.{OwnPlace};
+
+    /// No places. It takes no memory.
+    pub(crate) fn new(alloc: Global) -> ManyPlaces
+        ensures { result.places.keys ≡ [] }
     {
-        Some(place) => Some(*place),
-        None => None,
-    }
-}
-
-/// The first place above another, where there is one.
-fn begin(set: &BTreeSet<OwnPlace>, after: Option<OwnPlace>) -> Option<OwnPlace>
-    ensures { (first end : ℕ) → HasReached set.now.keys first end after result }
-{
-    match after {
-        Some(place) => set_above(set, place),
-        None => {
-            let least = OwnPlace {
-                order: 0,
-                first: 0,
-                id: RecordId::ROOT,
-            };
-            set_from(set, least)
+        ManyPlaces {
+            places: BTreeSet::new(alloc),
+            orders: Orders::NONE,
         }
     }
-}
 
-/// What comes next that may meet the pages, behind a place that does not: from its order's place
-/// that holds the first page on, or of the orders above.
-fn pass(set: &BTreeSet<OwnPlace>, place: OwnPlace, first: u64, end: u64) -> Option<OwnPlace>
-    requires aligned { AreAligned set.now.keys }
-    requires held { stands set.now.keys place ≡ true }
-    requires pages { first < end }
-    requires apart { own_meets place first end ≡ false }
-    ensures reached { HasReached set.now.keys first end (Some place) result }
-    ensures fewer { orders_ahead first result < orders_ahead first (Some place) }
-{
-    if place.first >= end {
-        let above = OwnPlace {
-            order: place.order + 1,
-            first: 0,
-            id: RecordId::ROOT,
+    /// Puts one place more. An error where memory was wanted.
+    pub(crate) fn insert(&mut self, place: OwnPlace) -> Result<(), AllocError>
+        ensures { OnOk result ((k : OwnPlace) → stands self.new.places.keys k
+            ≡ (is_at (place_cmp place) k || stands self.old.places.keys k)) }
+    {
+        self.orders.add(place.order);
+        self.places.insert(place)?;
+        Ok(())
+    }
+
+    /// The least place from one on.
+    pub(crate) fn first_from(&self, from: OwnPlace) -> Option<OwnPlace>
+        ensures { IsLeast (is_from_start place_cmp (Included from)) self.now.places.keys result }
+    {
+        let spot = set_from(&self.places, from)?;
+        Some(spot.place)
+    }
+
+    /// The least place above one.
+    pub(crate) fn first_above(&self, after: OwnPlace) -> Option<OwnPlace>
+        ensures { IsLeast (is_from_start place_cmp (Excluded after)) self.now.places.keys result }
+    {
+        let spot = set_above(&self.places, after)?;
+        Some(spot.place)
+    }
+
+    /// The first place, of an order from one on, that may hold a page or come behind it.
+    fn reach(&self, order: u8, page: u64) -> Option<Spot>
+        requires { AreAligned self.now.places.keys }
+        ensures reached { (end : ℕ) → HasReachedFrom self.now.places.keys order page end
+            (option_map spot_place result) }
+        ensures behind { IfSome result (IsBehind self.now.places.keys) }
+    {
+        match self.orders.next_from(order.max(LEAST_ORDER)) {
+            Some(next) if next <= TOP_ORDER => set_from(&self.places, start_of(next, page)),
+            _ => None,
+        }
+    }
+
+    /// The first place above another, where there is one, that may meet the pages.
+    fn begin(&self, first: u64, end: u64, after: Option<OwnPlace>) -> Option<Spot>
+        requires { AreAligned self.now.places.keys }
+        ensures reached { HasReached self.now.places.keys first end after
+            (option_map spot_place result) }
+        ensures behind { IfSome result (IsBehind self.now.places.keys) }
+    {
+        let Some(place) = after else {
+            return self.reach(0, first);
         };
-        return set_from(set, above);
-    }
-    let from = OwnPlace {
-        order: place.order,
-        first: first - first % pages_of_order(place.order),
-        id: RecordId::ROOT,
-    };
-    set_from(set, from)
-}
-
-/// The least place, above another, that meets the pages from `first` on up to before `end`.
-pub(crate) fn set_meeting(
-    set: &BTreeSet<OwnPlace>,
-    first: u64,
-    end: u64,
-    after: Option<OwnPlace>,
-) -> Option<OwnPlace>
-    requires { AreAligned set.now.keys }
-    ensures { IsNextPlace set.now.keys first end after result }
-{
-    if first >= end {
-        return None;
-    }
-    let mut reached = begin(set, after);
-    'orders: while let Some(place) = reached {
-        if place.meets(first, end) {
-            return Some(place);
+        if place.first >= end {
+            return self.reach(place.order.saturating_add(1), first);
         }
-        reached = pass(set, place, first, end);
+        set_above(&self.places, place)
     }
-    None
+
+    /// What comes next that may meet the pages, behind a place that does not: from its order's
+    /// place that holds the first page on, or of the orders above.
+    fn pass(&self, place: OwnPlace, first: u64, end: u64) -> Option<Spot>
+        requires aligned { AreAligned self.now.places.keys }
+        requires held { stands self.now.places.keys place ≡ true }
+        requires pages { first < end }
+        requires apart { own_meets place first end ≡ false }
+        ensures reached { HasReached self.now.places.keys first end (Some place)
+            (option_map spot_place result) }
+        ensures fewer { orders_ahead first (option_map spot_place result)
+            < orders_ahead first (Some place) }
+        ensures behind { IfSome result (IsBehind self.now.places.keys) }
+    {
+        if place.first >= end {
+            return self.reach(place.order + 1, first);
+        }
+        set_from(&self.places, start_of(place.order, first))
+    }
+
+    /// Whether no place above a spot's can begin before the end of the pages.
+    fn is_last(&self, spot: Spot, first: u64, end: u64) -> bool
+        requires aligned { AreAligned self.now.places.keys }
+        requires behind { IsBehind self.now.places.keys spot }
+        ensures { result ≡ true
+            → IsNextPlace self.now.places.keys first end (Some spot.place) None }
+    {
+        let order = spot.place.order;
+        match spot.next {
+            Some(next) if next.order == order && next.first < end => false,
+            Some(_) => self.orders.next_from(order.saturating_add(1)).is_none(),
+            None => true,
+        }
+    }
+
+    /// The least place, above another, that meets the pages from `first` on up to before `end`.
+    pub(crate) fn next_meeting(
+        &self,
+        first: u64,
+        end: u64,
+        after: Option<OwnPlace>,
+    ) -> Option<FoundPlace>
+        requires { AreAligned self.now.places.keys }
+        ensures next { IsNextPlace self.now.places.keys first end after
+            (option_map found_place result) }
+        ensures last { IfSome result (IsLastWhereSaid self.now.places.keys first end) }
+    {
+        if first >= end {
+            return None;
+        }
+        let mut reached = self.begin(first, end, after);
+        'orders: while let Some(spot) = reached {
+            let place = spot.place;
+            if place.meets(first, end) {
+                let last = self.is_last(spot, first, end);
+                return Some(FoundPlace { place, last });
+            }
+            reached = self.pass(place, first, end);
+        }
+        None
+    }
 }

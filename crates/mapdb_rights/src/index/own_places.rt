@@ -1,21 +1,22 @@
 //! The places of one owner: a few in a list, many in a set.
 
 ghost use Rattle.std.specs.Prelude.{◌≡◌, ◌≤◌, ◌<◌, ◌-◌, ◌^◌, ◌||◌, IfOk, IfSome, OnOk, []};
+ghost use Rattle.std.specs.Prelude.{option_map};
 ghost use Rattle.std.specs.BTreeMap.{is_at};
 ghost use Rattle.std.specs.BTreeMap.Range.{is_from_start};
 ghost use Rattle.std.specs.Ordering.{is_lt};
 ghost use Rattle.std.specs.declared.ops.Bound.TheVariants.{Excluded, Included};
-ghost use Rattle.mapdb_rights.specs.OwnPlaces.{AreAligned, IsAlignedPlace, IsLeast, IsNextPlace};
-ghost use Rattle.mapdb_rights.specs.OwnPlaces.{own_list, own_meets, place_cmp, stands};
+ghost use Rattle.mapdb_rights.specs.OwnPlaces.{AreAligned, IsAlignedPlace, IsLastWhereSaid};
+ghost use Rattle.mapdb_rights.specs.OwnPlaces.{IsLeast, IsNextPlace, found_place, own_list};
+ghost use Rattle.mapdb_rights.specs.OwnPlaces.{own_meets, place_cmp, stands};
 ghost use Rattle.mapdb_rights.specs.declared.index.own_places.OwnPlace.{OwnPlace};
 
-use super::few_places::{least_inside, least_meeting};
-use super::many_places::{set_above, set_from, set_meeting};
+use super::few_places::{found_meeting, least_inside};
+use super::many_places::ManyPlaces;
 use mapdb_facts::RecordId;
 use mapdb_fpage::{LEAST_ORDER, PAGE_LIMIT, TOP_ORDER};
 use smallvec::SmallVec;
 use std::alloc::{AllocError, Global};
-use std::collections::BTreeSet;
 use std::ops::Bound;
 
 /// A place of an owner, and the record that stands for it.
@@ -58,6 +59,15 @@ impl OwnPlace {
     }
 }
 
+/// A place that was found, and whether it is known to be the last that is looked for.
+#[derive(Clone, Copy, Debug)]
+pub struct FoundPlace {
+    /// The place.
+    pub place: OwnPlace,
+    /// Whether none that is looked for comes behind it; where it is not known, it says no.
+    pub last: bool,
+}
+
 /// How many places are looked through one by one; more stand in a set.
 const FEW: usize = 16;
 
@@ -67,18 +77,19 @@ pub enum OwnPlaces {
     /// A few, as they came.
     Few(SmallVec<OwnPlace, 2>),
     /// Many, in ascending order.
-    Many(BTreeSet<OwnPlace>),
+    Many(ManyPlaces),
 }
 
-/// These places as a set.
-fn set_of(alloc: Global, places: &[OwnPlace]) -> Result<BTreeSet<OwnPlace>, AllocError>
-    ensures { IfOk result (λ set. (k : OwnPlace) → stands set.keys k ≡ stands places.now k) }
+/// These places as many.
+fn many_of(alloc: Global, places: &[OwnPlace]) -> Result<ManyPlaces, AllocError>
+    ensures { IfOk result (λ many. (k : OwnPlace)
+        → stands many.places.keys k ≡ stands places.now k) }
 {
-    let mut set = BTreeSet::new(alloc);
+    let mut many = ManyPlaces::new(alloc);
     for place in places {
-        set.insert(*place)?;
+        many.insert(*place)?;
     }
-    Ok(set)
+    Ok(many)
 }
 
 impl OwnPlaces {
@@ -95,7 +106,7 @@ impl OwnPlaces {
     {
         match self {
             OwnPlaces::Few(list) => least_inside(list.as_slice(), &Bound::Included(from)),
-            OwnPlaces::Many(set) => set_from(set, from),
+            OwnPlaces::Many(many) => many.first_from(from),
         }
     }
 
@@ -105,7 +116,7 @@ impl OwnPlaces {
     {
         match self {
             OwnPlaces::Few(list) => least_inside(list.as_slice(), &Bound::Excluded(after)),
-            OwnPlaces::Many(set) => set_above(set, after),
+            OwnPlaces::Many(many) => many.first_above(after),
         }
     }
 
@@ -115,39 +126,41 @@ impl OwnPlaces {
         first: u64,
         end: u64,
         after: Option<OwnPlace>,
-    ) -> Option<OwnPlace>
+    ) -> Option<FoundPlace>
         requires { AreAligned (own_list self.now) }
-        ensures { IsNextPlace (own_list self.now) first end after result }
+        ensures next { IsNextPlace (own_list self.now) first end after
+            (option_map found_place result) }
+        ensures last { IfSome result (IsLastWhereSaid (own_list self.now) first end) }
     {
         match self {
-            OwnPlaces::Few(list) => least_meeting(list.as_slice(), first, end, after),
-            OwnPlaces::Many(set) => set_meeting(set, first, end, after),
+            OwnPlaces::Few(list) => found_meeting(list.as_slice(), first, end, after),
+            OwnPlaces::Many(many) => many.next_meeting(first, end, after),
         }
     }
 
-    /// The same places as a set, where they are too many for a list. An error where memory was
+    /// The same places as many, where they are too many for a list. An error where memory was
     /// wanted.
-    fn outgrown(&self, alloc: Global) -> Result<Option<BTreeSet<OwnPlace>>, AllocError>
-        ensures { IfOk result (λ grown. IfSome grown
-            (λ set. (k : OwnPlace) → stands set.keys k ≡ stands (own_list self.now) k)) }
+    fn outgrown(&self, alloc: Global) -> Result<Option<ManyPlaces>, AllocError>
+        ensures { IfOk result (λ grown. IfSome grown (λ many. (k : OwnPlace)
+            → stands many.places.keys k ≡ stands (own_list self.now) k)) }
     {
         match self {
             OwnPlaces::Few(list) if list.len() >= FEW => {
-                let set = set_of(alloc, list.as_slice())?;
-                Ok(Some(set))
+                let many = many_of(alloc, list.as_slice())?;
+                Ok(Some(many))
             }
             _ => Ok(None),
         }
     }
 
-    /// Goes over to a set where there are too many places for a list. An error where memory was
+    /// Goes over to many where there are too many places for a list. An error where memory was
     /// wanted.
     fn widen(&mut self, alloc: Global) -> Result<(), AllocError>
         ensures { OnOk result ((k : OwnPlace) → stands (own_list self.new) k
             ≡ stands (own_list self.old) k) }
     {
-        if let Some(set) = self.outgrown(alloc)? {
-            *self = OwnPlaces::Many(set);
+        if let Some(many) = self.outgrown(alloc)? {
+            *self = OwnPlaces::Many(many);
         }
         Ok(())
     }
@@ -161,9 +174,7 @@ impl OwnPlaces {
             OwnPlaces::Few(list) => {
                 list.push(place)?;
             }
-            OwnPlaces::Many(set) => {
-                set.insert(place)?;
-            }
+            OwnPlaces::Many(many) => many.insert(place)?,
         }
         Ok(())
     }

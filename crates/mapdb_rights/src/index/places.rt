@@ -4,11 +4,12 @@
 ghost use Rattle.std.specs.Prelude.{◌≡◌, ◌||◌, false, IfSome, OnOk, option_map};
 ghost use Rattle.std.specs.BTreeMap.{is_at};
 ghost use Rattle.std.specs.declared.ops.Bound.TheVariants.{Excluded, Included};
-ghost use Rattle.mapdb_rights.specs.Listing.{AllAligned, IsFirstInside, IsNextMeeting, is_among};
+ghost use Rattle.mapdb_rights.specs.Listing.{AllAligned, IsFirstInside, IsLastEntryWhereSaid};
+ghost use Rattle.mapdb_rights.specs.Listing.{IsNextMeeting, found_entry, found_for, is_among};
 ghost use Rattle.mapdb_rights.specs.Listing.{is_listed, listed_cmp, listed_for, own_place};
 ghost use Rattle.mapdb_rights.specs.declared.index.places.Listed.{Listed};
 
-use super::own_places::{OwnPlace, OwnPlaces};
+use super::own_places::{FoundPlace, OwnPlace, OwnPlaces};
 use mapdb_facts::{RecordId, Space};
 use std::alloc::{AllocError, Global};
 use std::collections::HashMap;
@@ -33,6 +34,15 @@ pub struct Listed {
     pub first: u64,
     /// The record that stands for it.
     pub id: RecordId,
+}
+
+/// An entry that was found, and whether it is known to be the last that is looked for.
+#[derive(Clone, Copy, Debug)]
+pub struct FoundEntry {
+    /// The entry.
+    pub entry: Listed,
+    /// Whether none that is looked for comes behind it; where it is not known, it says no.
+    pub last: bool,
 }
 
 impl Listed {
@@ -68,6 +78,24 @@ fn listed_for(owner: Owner, place: Option<OwnPlace>) -> Option<Listed>
             order: place.order,
             first: place.first,
             id: place.id,
+        }),
+        None => None,
+    }
+}
+
+/// A place that was found as the owner's, where there is one.
+fn found_for(owner: Owner, found: Option<FoundPlace>) -> Option<FoundEntry>
+    ensures { result ≡ option_map (found_for owner) found }
+{
+    match found {
+        Some(found) => Some(FoundEntry {
+            entry: Listed {
+                owner,
+                order: found.place.order,
+                first: found.place.first,
+                id: found.place.id,
+            },
+            last: found.last,
         }),
         None => None,
     }
@@ -138,6 +166,27 @@ impl Places {
     }
 
     /// The least entry of the owner, above another, that meets the pages from `first` on up to
+    /// before `end`, and whether it is the last.
+    pub(crate) fn next_found(
+        &self,
+        owner: Owner,
+        first: u64,
+        end: u64,
+        after: Option<Listed>,
+    ) -> Option<FoundEntry>
+        requires aligned { AllAligned self.now }
+        requires owned { IfSome after (λ e. e.owner ≡ owner) }
+        ensures next { IsNextMeeting self.now owner first end after
+            (option_map found_entry result) }
+        ensures last { IfSome result (IsLastEntryWhereSaid self.now owner first end) }
+    {
+        match self.own.get(&owner) {
+            Some(own) => found_for(owner, own.next_meeting(first, end, place_of(after))),
+            None => None,
+        }
+    }
+
+    /// The least entry of the owner, above another, that meets the pages from `first` on up to
     /// before `end`.
     pub(crate) fn next_meeting(
         &self,
@@ -150,8 +199,8 @@ impl Places {
         requires owned { IfSome after (λ e. e.owner ≡ owner) }
         ensures { IsNextMeeting self.now owner first end after result }
     {
-        match self.own.get(&owner) {
-            Some(own) => listed_for(owner, own.next_meeting(first, end, place_of(after))),
+        match self.next_found(owner, first, end, after) {
+            Some(found) => Some(found.entry),
             None => None,
         }
     }

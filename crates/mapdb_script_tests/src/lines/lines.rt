@@ -59,6 +59,10 @@ fn lines_say_queries(rt: HostRuntime) {
         (b"same 255 0", Line::Same(255, 0)),
         (b"covers 0 1", Line::Covers(0, 1)),
         (b"table 255", Line::Table(255)),
+        (
+            b" tree  65535 fffffffff000 \r",
+            Line::Tree(second, 0xffff_ffff_f000),
+        ),
     ] {
         assert_eq!(rt; parse_line(line), Ok(Some(said)));
     }
@@ -72,7 +76,7 @@ fn lines_say_nothing(rt: HostRuntime) {
 }
 
 /// Faulty lines, each with its fault.
-const FAULTY: [(&[u8], LineFault); 54] = [
+const FAULTY: [(&[u8], LineFault); 60] = [
     (b"\t#", LineFault::Unknown),
     (b"Rights 0 0 0", LineFault::Unknown),
     (b"serve 0 0 0", LineFault::Unknown),
@@ -120,6 +124,12 @@ const FAULTY: [(&[u8], LineFault); 54] = [
     (b"map 0 0 nil:wr- x 1 all", LineFault::Rights),
     (b"map 0 0 nil:rwx x 1 all", LineFault::Number),
     (b"map 0 0 nil:rwx 0 1 nil:", LineFault::PageSyntax),
+    (b"trees 0 0", LineFault::Unknown),
+    (b"tree 0 0 0", LineFault::Words),
+    (b"tree x", LineFault::Words),
+    (b"tree 65536 x", LineFault::Number),
+    (b"tree 0 1000000000000", LineFault::Number),
+    (b"tree 0 00000000000000000", LineFault::Number),
     (b"version 0", LineFault::Words),
     (b"version 0 5 0", LineFault::Words),
     (b"version 256 5", LineFault::Number),

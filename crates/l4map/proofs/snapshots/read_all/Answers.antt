@@ -68,3 +68,6 @@ returns-in_err-extend_from_slice-clause-read g c =
       told.0,
       told.1,
     )
+
+pub returns-clause-over : goal.returns-clause-over
+returns-clause-over g c = tt

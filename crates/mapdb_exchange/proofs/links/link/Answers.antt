@@ -8,4 +8,4 @@ bounded_with-requires-clause-rule g c = begins
 
 pub another-other-requires-clause-rule : goal.another-other-requires-clause-rule
 another-other-requires-clause-rule g c =
-    forks _ _ (ap (λ (v : PassView). v.sends) c.in-Ok.ensures.3) (ap (λ (v : PassView). v.receives) c.in-Ok.ensures.3)
+    forks _ _ (ap (λ (v : PassView). v.sends) c.in_ok-sender.ensures.3) (ap (λ (v : PassView). v.receives) c.in_ok-sender.ensures.3)

@@ -28,7 +28,7 @@ returns-in-Err-clause-err g c =
     let exact = exact_cmp g.K.Ord.cmp laws.Ord.matches_eq laws.Exact.exact in
     let at = held_from_mut {r = c.get_mut.result} {v = c.in-Some.mine} c.in-Some.is c.get_mut.ensures.value in
     let u = (c.get_mut.follows.holds c.merge.new.self).changed (ap is_some at) in
-    let left = left_between g.V.Merge.has g.V.Merge.excludes g.V.Merge.is_spot c.in-Some.mine.now c.args.value.now c.merge.new.self c.in-Err.field-0 c.in-Err.ensures.err in
+    let left = left_between g.V.Merge.has g.V.Merge.excludes g.V.Merge.is_spot c.in-Some.mine.now c.args.value.now c.merge.new.self c.in-Err.fault c.in-Err.ensures.err in
     between_at exact laws.Ord.total g.V.Merge.has (entries_of c.args.map.now) _ c.args.key c.in-Some.mine.now c.args.value.now c.merge.new.self at u left
 
 pub returns-in-Err-clause-keys_stay : goal.returns-in-Err-clause-keys_stay

@@ -1,6 +1,6 @@
 //! What the index of a copy tells, beside what the recursion of rights says.
 
-use super::{end, flush, id, issue_all, map, space, unmap};
+use super::{end, id, issue_all, map, space, unmap};
 use crate::orders::ORDERS;
 use mapdb_facts::{Facts, RecordId, Space};
 use mapdb_fpage::Rights;
@@ -114,17 +114,5 @@ fn index_of_revoked_grandchild(rt: HostRuntime) {
     issue_all(&rt, &mut copy, &commands);
     expect_index(&rt, &copy);
     issue_all(&rt, &mut copy, &[(end(1), 1)]);
-    expect_index(&rt, &copy);
-}
-
-#[test]
-fn index_of_flushed_page(rt: HostRuntime) {
-    let commands = [
-        (map((0, 0xc000), (1, 0x1c000), 14, 7), 1),
-        (map((1, 0x1c000), (2, 0x2c000), 14, 7), 1),
-        (flush(1, 0x1f000, 12, 7), 2),
-    ];
-    let mut copy = Replica::new(rt.alloc(), 0);
-    issue_all(&rt, &mut copy, &commands);
     expect_index(&rt, &copy);
 }

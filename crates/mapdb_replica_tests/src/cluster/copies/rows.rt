@@ -11,69 +11,6 @@ use std::alloc::Global;
 use std::process::Abort;
 use std::test::Fail;
 
-#[test]
-fn revoke_reaches_grandchild(rt: HostRuntime) {
-    let commands = [
-        (map((0, 0x10000), (1, 0x20000), 12, 6), 1),
-        (map((1, 0x20000), (2, 0x30000), 12, 7), 1),
-        (map((2, 0x30000), (3, 0x40000), 12, 6), 1),
-        (unmap(1, 0x20000, 12, 2), 1),
-        (unmap(1, 0x20000, 12, 2), 0),
-    ];
-    let mut copy = Replica::new(rt.alloc(), 0);
-    issue_all(&rt, &mut copy, &commands);
-    expect_pages(
-        &rt,
-        &copy,
-        &[
-            (1, 0x20, Some((0x10, 6))),
-            (2, 0x30, Some((0x10, 4))),
-            (3, 0x40, Some((0x10, 4))),
-        ],
-    );
-}
-
-#[test]
-fn flush_one_page_of_four(rt: HostRuntime) {
-    let commands = [
-        (map((0, 0x10000), (1, 0x40000), 14, 7), 1),
-        (map((1, 0x40000), (2, 0x80000), 14, 7), 1),
-        (flush(1, 0x41000, 12, 7), 2),
-    ];
-    let mut copy = Replica::new(rt.alloc(), 0);
-    issue_all(&rt, &mut copy, &commands);
-    expect_pages(
-        &rt,
-        &copy,
-        &[(1, 0x41, None), (2, 0x81, None), (2, 0x82, Some((0x12, 7)))],
-    );
-}
-
-#[test]
-fn root_flushes_itself(rt: HostRuntime) {
-    let commands = [
-        (flush(0, 0x10000, 12, 7), 1),
-        (map((0, 0x10000), (1, 0x20000), 12, 4), 0),
-    ];
-    let mut copy = Replica::new(rt.alloc(), 0);
-    issue_all(&rt, &mut copy, &commands);
-    expect_pages(&rt, &copy, &[(0, 0x10, None)]);
-}
-
-#[test]
-fn remap_after_unmap(rt: HostRuntime) {
-    let commands = [
-        (map((0, 0x10000), (1, 0x20000), 12, 6), 1),
-        (map((1, 0x20000), (2, 0x30000), 12, 6), 1),
-        (unmap(1, 0x20000, 12, 7), 1),
-        (map((0, 0x50000), (2, 0x30000), 12, 4), 1),
-        (unmap(1, 0x20000, 12, 7), 0),
-    ];
-    let mut copy = Replica::new(rt.alloc(), 0);
-    issue_all(&rt, &mut copy, &commands);
-    expect_pages(&rt, &copy, &[(2, 0x30, Some((0x50, 4)))]);
-}
-
 /// Copy 1 takes a map of copy 0 and maps on from there, while copy 0 unmaps. Then copy 0 takes what
 /// copy 1 holds.
 fn with_unseen_child(
@@ -92,16 +29,6 @@ fn with_unseen_child(
 }
 
 #[test]
-fn unseen_child_keep(rt: HostRuntime) {
-    let kept = [(unmap(1, 0x20000, 12, 2), 0)];
-    let mut copy = Replica::new(rt.alloc(), 0);
-    let mut other = Replica::new(rt.alloc(), 1);
-    with_unseen_child(&rt, &mut copy, &mut other, &kept);
-    expect(&rt, other.merge(&copy), Ok(0));
-    expect_pages(&rt, &copy, &[(2, 0x30, Some((0x10, 6)))]);
-}
-
-#[test]
 fn unseen_child_flush(rt: HostRuntime) {
     let flushed = [(flush(1, 0x20000, 12, 6), 1)];
     let revocation = [cut(id(1), 0x20000, 12, 6)];
@@ -112,26 +39,6 @@ fn unseen_child_flush(rt: HostRuntime) {
     expect_pages(&rt, &copy, &[(2, 0x30, None)]);
     expect_pages(&rt, &other, &[(2, 0x30, None)]);
     expect_issued(&rt, &copy, 1, &revocation);
-}
-
-/// Ends space 5, and takes a record into it afterwards.
-fn take_late(rt: &impl Abort, copy: &mut Replica, other: &Replica) {
-    let again = [(end(5), IssueFault::SpaceEnded(space(5)))];
-    issue_all(rt, copy, &[(end(5), 1)]);
-    expect(rt, copy.merge(other), Ok(1));
-    expect_pages(rt, copy, &[(5, 0x20, None)]);
-    refuse_all(rt, copy, &again);
-}
-
-#[test]
-fn late_record_of_an_ended_space(rt: HostRuntime) {
-    let first = [(map((0, 0x10000), (5, 0x20000), 12, 6), 1)];
-    let mut copy = Replica::new(rt.alloc(), 0);
-    let mut other = Replica::new(rt.alloc(), 1);
-    issue_all(&rt, &mut copy, &first);
-    take_late(&rt, &mut other, &copy);
-    expect(&rt, copy.merge(&other), Ok(1));
-    expect_pages(&rt, &copy, &[(5, 0x20, None)]);
 }
 
 /// Takes the operation at a place of another copy, which is new.

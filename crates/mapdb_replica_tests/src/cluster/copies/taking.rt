@@ -1,6 +1,6 @@
 //! What a copy takes, and what it refuses.
 
-use super::{expect_pages, expect_rights, id, issue_all, map};
+use super::{expect_rights, id, issue_all, map};
 use mapdb_facts::{Op, OpFault, Record, RecordId, Space};
 use mapdb_fpage::{Fpage, Rights};
 use mapdb_replica::{MOST_OPERATIONS, Replica, TakeFault};
@@ -28,11 +28,6 @@ fn of_root(number: u64) -> Op {
 /// Another record of the name, which has no rights.
 fn other_of_root(number: u64) -> Op {
     born(id(number), 1, RecordId::ROOT, Rights::NONE)
-}
-
-/// A record of all that record 1 has, into space 2.
-fn of_first(number: u64) -> Op {
-    born(id(number), 2, id(1), Rights::ALL)
 }
 
 /// The end of a space.
@@ -140,19 +135,6 @@ fn records_of_a_batch_clash(rt: HostRuntime) {
     expect_held(&rt, &copy, &front);
 }
 
-#[test]
-fn parents_may_come_last(rt: HostRuntime) {
-    let batch = [of_first(2), end(7), of_first(2), of_root(1), end(7)];
-    let news = [of_first(2), end(7), of_root(1)];
-    let mut copy = Replica::new(rt.alloc(), 1);
-    expect_taken(&rt, &mut copy, &batch, Ok(3));
-    expect_held(&rt, &copy, &news);
-    expect_taken(&rt, &mut copy, &batch, Ok(0));
-    expect_taken(&rt, &mut copy, &[], Ok(0));
-    expect_held(&rt, &copy, &news);
-    expect_pages(&rt, &copy, &[(2, 0x20, Some((0x20, 7)))]);
-}
-
 /// Merges copies of one and of two operations with each other, twice.
 fn merge_both(rt: &impl Abort, one: &mut Replica, other: &mut Replica) {
     expect_merged(rt, other, one, Ok(1));
@@ -172,16 +154,11 @@ fn copies_merge(rt: HostRuntime) {
     expect_taken(&rt, &mut other, &[end(5), of_root(9)], Ok(2));
     merge_both(&rt, &mut one, &mut other);
     expect_same(&rt, &one, &other);
-    expect_rights(&rt, &other, 1, 0x20, &[(0x10, 7), (0x20, 7)]);
-}
-
-#[test]
-fn copies_that_clash_do_not_merge(rt: HostRuntime) {
-    let mut one = Replica::new(rt.alloc(), 0);
-    let mut other = Replica::new(rt.alloc(), 1);
-    expect_taken(&rt, &mut one, &[end(5), of_root(9)], Ok(2));
-    expect_taken(&rt, &mut other, &[other_of_root(9)], Ok(1));
-    let clash = Err(TakeFault::Clash(id(9)));
-    expect_merged(&rt, &mut other, &one, clash);
-    expect_held(&rt, &other, &[other_of_root(9)]);
+    expect_rights(
+        &rt,
+        &other,
+        1,
+        0x20,
+        &[(0x10, Rights::ALL), (0x20, Rights::ALL)],
+    );
 }

@@ -2,24 +2,27 @@ use Rattle.std.proofs.Common.{◌∙◌}
 use Rattle.std.specs.Prelude.{◌&&◌, nat_le, nat_lt}
 use Rattle.std.proofs.lemmas.Bool.{and_from}
 use Rattle.mapdb_fpage.specs.Place.{holds}
-use Rattle.mapdb_facts.proofs.Formed.{formed_record}
 use Rattle.mapdb_facts.specs.Facts.{state_of_facts}
 use Rattle.mapdb_facts.specs.Names.{same_id}
+use Rattle.mapdb_facts.specs.State.{said}
 use Rattle.mapdb_facts.specs.declared.operations.Op.TheVariants.{Born}
 use Rattle.mapdb_rights.specs.Changes.{cached_in}
-use Rattle.mapdb_rights.proofs.Followed.{frames_by_op, left_by_op, listed_by_record}
+use Rattle.mapdb_rights.proofs.Followed.{frames_by_op, left_by_op, listed_by_record, of_held_on}
 use Rattle.mapdb_rights.proofs.Pendings.{pending_last}
 use Rattle.mapdb_rights.proofs.Results.{on_both}
 use Rattle.mapdb_rights.proofs.index.following.follow_record.Goals as goal
 
-pub list_record-requires-clause-formed : goal.list_record-requires-clause-formed
-list_record-requires-clause-formed c = formed_record c.args.mapping.now c.requires.formed
+pub list_held-requires : goal.list_held-requires
+list_held-requires c = record {
+  aligned = c.requires.stood.stood.listed_there.aligned;
+  held = of_held_on (state_of_facts c.args.facts.now) c.requires.stood.before (said (Born c.args.mapping.now)) c.args.listed.now c.requires.stood.is c.requires.stood.stood.listed_there.held;
+}
 
 pub settle-requires-clause-listed : goal.settle-requires-clause-listed
 settle-requires-clause-listed c =
-    listed_by_record c.args.listed.now c.list_record.new.listed c.in_ok-list_record.ensures.kept
+    listed_by_record c.args.listed.now c.list_held.new.listed c.in_ok-list_held.ensures.kept
     (state_of_facts c.args.facts.now) c.requires.stood.before c.args.mapping.now c.requires.stood.is
-    c.in_ok-list_record.ensures.there c.requires.stood.stood.listed_there c.in_ok-list_record.ensures.aligned
+    c.in_ok-list_held.ensures.there c.requires.stood.stood.listed_there c.in_ok-list_held.ensures.aligned c.in_ok-list_held.ensures.held
 
 pub settle-requires-clause-settled : goal.settle-requires-clause-settled
 settle-requires-clause-settled c =
@@ -37,7 +40,7 @@ returns c = on_both c.settle.result (λ are frames. record {
   rights = are;
   frames = frames;
   listed_there =
-      listed_by_record c.args.listed.now c.list_record.new.listed c.in_ok-list_record.ensures.kept
+      listed_by_record c.args.listed.now c.list_held.new.listed c.in_ok-list_held.ensures.kept
       (state_of_facts c.args.facts.now) c.requires.stood.before c.args.mapping.now c.requires.stood.is
-      c.in_ok-list_record.ensures.there c.requires.stood.stood.listed_there c.in_ok-list_record.ensures.aligned;
+      c.in_ok-list_held.ensures.there c.requires.stood.stood.listed_there c.in_ok-list_held.ensures.aligned c.in_ok-list_held.ensures.held;
 }) c.settle.ensures.rights c.settle.ensures.frames

@@ -24,3 +24,10 @@ returns-clause-kept c e has = c.in_ok-insert.ensures e ∙ later (is_at (listed_
     later : (a b : Bool) → b ≡ true → (a || b) ≡ true
     later true b h = refl
     later false b h = h
+
+pub returns-clause-no_more : goal.returns-clause-no_more
+returns-clause-no_more c e has =
+    elim (cases_Bool (is_at (listed_cmp c.args.place) e)) [
+      | inl same ↦ inl (sym (exact_listed c.args.place e same))
+      | inr other ↦ inr (sym (c.in_ok-insert.ensures e ∙ ap (λ (b : Bool). b || is_listed c.args.listed.now e) other) ∙ has)
+    ]

@@ -3,7 +3,7 @@ use Rattle.mapdb_facts.specs.Facts.{state_of_facts}
 use Rattle.mapdb_facts.specs.declared.operations.Record.{Record}
 use Rattle.mapdb_rights.specs.Listing.{IsListed}
 use Rattle.mapdb_rights.proofs.Ended.{later_or_same}
-use Rattle.mapdb_rights.proofs.Followed.{listed_on}
+use Rattle.mapdb_rights.proofs.Followed.{listed_on, of_held_with}
 use Rattle.mapdb_rights.proofs.index.listing.list_records.Goals as goal
 
 pub records-preserved : goal.records-preserved
@@ -16,4 +16,6 @@ records-preserved c = record {
       | inr one ↦ inr (subst (λ (s : Record). IsListed c.list_record.new.listed s) one c.in_ok-list_record.ensures.there)
     ]
   ];
+  held = of_held_with (state_of_facts c.args.facts.now) c.records.listed c.list_record.new.listed c.in-Some.mapping c.in-Some.ensures.found.held
+      c.in_ok-list_record.ensures.no_more c.records.invariant.held;
 }

@@ -2,9 +2,17 @@ use Rattle.std.proofs.Common.{sym, ◌∙◌}
 use Rattle.mapdb_facts.specs.Facts.{state_of_facts}
 use Rattle.mapdb_rights.specs.Among.{under}
 use Rattle.mapdb_rights.proofs.Entries.{fewer_above}
+use Rattle.mapdb_rights.proofs.Followed.{listed_into}
 use Rattle.mapdb_rights.proofs.PlaceNames.{entry_above, entry_of}
 use Rattle.mapdb_rights.proofs.ShownNames.{further_next, none_shown, shown_here}
 use Rattle.mapdb_rights.proofs.index.live_names.shown_after.Goals as goal
+
+pub is_shown-requires : goal.is_shown-requires
+is_shown-requires c = record {
+  stands = c.requires.stands;
+  into = listed_into (state_of_facts c.args.facts.now) c.args.listed.now c.args.space (under c.args.place c.in-Some.id) c.requires.stands.listed_there.held
+      c.in-Some.ensures.sound c.requires.owned;
+}
 
 pub names-init : goal.names-init
 names-init c = record { further = λ id shown above. above; within = λ id behind. behind }

@@ -4,9 +4,9 @@ use Rattle.mapdb_rights.specs.declared.index.own_places.OwnPlaces.{OwnPlaces}
 use Rattle.mapdb_rights.specs.OwnPlaces.{AreAligned, own_list}
 use Rattle.mapdb_rights.proofs.index.own_places.OwnPlaces.next_meeting.Goals as goal
 
-pub least_meeting-requires : goal.least_meeting-requires
-least_meeting-requires c =
+pub found_meeting-requires : goal.found_meeting-requires
+found_meeting-requires c =
     subst (λ (places : List OwnPlace). AreAligned places) (sym c.as_slice.ensures) (subst (λ (own : OwnPlaces). AreAligned (own_list own)) c.in-Few.is c.requires)
 
-pub set_meeting-requires : goal.set_meeting-requires
-set_meeting-requires c = subst (λ (own : OwnPlaces). AreAligned (own_list own)) c.in-Many.is c.requires
+pub next_meeting-requires : goal.next_meeting-requires
+next_meeting-requires c = subst (λ (own : OwnPlaces). AreAligned (own_list own)) c.in-Many.is c.requires

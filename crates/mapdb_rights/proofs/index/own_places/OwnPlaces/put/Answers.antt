@@ -3,10 +3,9 @@ use Rattle.std.specs.Prelude.{◌||◌}
 use Rattle.std.specs.BTreeMap.{is_at}
 use Rattle.mapdb_rights.specs.declared.index.own_places.OwnPlaces.{OwnPlaces}
 use Rattle.mapdb_rights.specs.OwnPlaces.{own_list, place_cmp, stands}
-use Rattle.mapdb_rights.proofs.LeastPlaces.{set_put}
 use Rattle.mapdb_rights.proofs.index.own_places.OwnPlaces.put.Goals as goal
 
 pub returns-in_ok-insert-in-Many : goal.returns-in_ok-insert-in-Many
 returns-in_ok-insert-in-Many c k =
-    set_put c.in-Many.set.keys c.insert.new.self.keys c.args.place c.in_ok-insert-in-Many.ensures.updates.0 k
+    c.in_ok-insert-in-Many.ensures k
     ∙ ap (λ (own : OwnPlaces). is_at (place_cmp c.args.place) k || stands (own_list own) k) (sym c.in-Many.is)

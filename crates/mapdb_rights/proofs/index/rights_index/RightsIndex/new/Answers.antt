@@ -1,5 +1,6 @@
 use Rattle.std.proofs.Common.{◌≡◌, Some, ap, refl, sym, subst, ◌∙◌}
 use Rattle.std.specs.Prelude.{None}
+use Rattle.std.proofs.lemmas.Bool.{true≢false}
 use Rattle.mapdb_facts.specs.State.{nothing}
 use Rattle.mapdb_facts.specs.declared.operations.Record.{Record}
 use Rattle.mapdb_rights.specs.Changes.{AreFrames, cached_in}
@@ -17,6 +18,7 @@ returns c = record {
     listed_there = record {
       places = λ r held. absurd (none_some r held);
       aligned = none_aligned c.new-2.result c.new-2.ensures;
+      held = λ e has. absurd (true≢false (sym has ∙ c.new-2.ensures e));
     };
   };
 }

@@ -1,0 +1,22 @@
+use Rattle.std.proofs.Common.{ap, sym, subst, ◌∙◌}
+use Rattle.mapdb_facts.specs.Facts.{state_of_facts}
+use Rattle.mapdb_facts.specs.Looking.{Holds}
+use Rattle.mapdb_facts.specs.declared.operations.Record.{Record}
+use Rattle.mapdb_rights.specs.Listing.{IsListed}
+use Rattle.mapdb_facts.proofs.SameNames.{some_same}
+use Rattle.mapdb_rights.proofs.Followed.{of_held_with}
+use Rattle.mapdb_rights.proofs.Results.{on_ok}
+use Rattle.mapdb_rights.proofs.index.listing.list_held.Goals as goal
+
+pub returns-in-Some-clause-there : goal.returns-in-Some-clause-there
+returns-in-Some-clause-there c =
+    on_ok c.list_record.result
+    (λ there r at. subst (λ (s : Record). IsListed c.list_record.new.listed s) (some_same c.in-Some.mapping r (sym c.in-Some.is ∙ c.record.ensures.held ∙ at)) there)
+    c.list_record.ensures.there
+
+pub returns-in-Some-clause-held : goal.returns-in-Some-clause-held
+returns-in-Some-clause-held c =
+    let own : Holds (state_of_facts c.args.facts.now) c.in-Some.mapping =
+    ap ((state_of_facts c.args.facts.now).record_at) c.in-Some.ensures.named ∙ sym c.record.ensures.held ∙ c.in-Some.is in
+    on_ok c.list_record.result (λ no_more. of_held_with (state_of_facts c.args.facts.now) c.args.listed.now c.list_record.new.listed c.in-Some.mapping own no_more c.requires.held)
+    c.list_record.ensures.no_more
