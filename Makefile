@@ -21,6 +21,9 @@ $(BUILT)/mapdb_heap.o: c/mapdb_heap.c
 $(BUILT)/%: examples/c/%.c include/mapdb.h $(BUILT)/mapdb_heap.o $(ARCHIVE)
 	$(CC) $(CFLAGS) -Iinclude -pthread -o $@ $< $(BUILT)/mapdb_heap.o $(ARCHIVE)
 
+$(BUILT)/calls: bench/c/calls.c include/mapdb.h $(BUILT)/mapdb_heap.o $(ARCHIVE)
+	$(CC) $(CFLAGS) -Iinclude -o $@ $< $(BUILT)/mapdb_heap.o $(ARCHIVE)
+
 $(BUILT)/mapdb.pc: mapdb.pc.in
 	mkdir -p $(BUILT)
 	sed 's#@PREFIX@#$(PREFIX)#' $< > $@

@@ -317,6 +317,34 @@ static void taking(void)
     mapdb_destroy(&source);
 }
 
+/* All that a full copy holds, given in one call, and in its snapshot. */
+static void handing_on(mapdb_copy *full)
+{
+    static mapdb_operation given[MAPDB_OPERATIONS];
+    static uint8_t text[4 << 20];
+    static mapdb_row rows[2];
+    mapdb_copy taker = created(1), loader = created(2);
+    mapdb_taken taken;
+    uint64_t count;
+    bool answer;
+
+    CHECK(mapdb_give(full, 0, MAPDB_OPERATIONS, given, MAPDB_OPERATIONS, &count), MAPDB_DONE);
+    CHECK(count, MAPDB_OPERATIONS);
+    CHECK(mapdb_take(&taker, given, MAPDB_OPERATIONS, &taken), MAPDB_DONE);
+    CHECK(taken.count, MAPDB_OPERATIONS);
+    CHECK(mapdb_same(&taker, full, &answer), MAPDB_DONE);
+    CHECK(answer, true);
+    CHECK(mapdb_snapshot(full, text, sizeof text, &count), MAPDB_DONE);
+    CHECK(mapdb_load(&loader, text, count, &taken), MAPDB_DONE);
+    CHECK(taken.count, MAPDB_OPERATIONS);
+    CHECK(mapdb_same(&loader, full, &answer), MAPDB_DONE);
+    CHECK(answer, true);
+    CHECK(mapdb_table(full, rows, 2, &count), MAPDB_DONE);
+    CHECK(count, 1);
+    mapdb_destroy(&taker);
+    mapdb_destroy(&loader);
+}
+
 /* As many ends as a copy holds. */
 static void filling(void)
 {
@@ -342,6 +370,7 @@ static void filling(void)
     CHECK(mapdb_take(&copy, batch, 1, &taken), MAPDB_FULL);
     CHECK(mapdb_end(&copy, batch[0].space, &issued), MAPDB_FULL);
     CHECK(mapdb_map(&copy, root, 0, &all, batch[0].space, &all, &issued), MAPDB_FULL);
+    handing_on(&copy);
     mapdb_destroy(&copy);
 }
 

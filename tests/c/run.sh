@@ -2,8 +2,8 @@
 # Builds the archive, compiles the header, the examples and the tests with all warnings as errors,
 # and runs them: as C99, C17 and C++17, under the address and undefined-behaviour sanitizers, under
 # valgrind where it is there, and by scripts against l4map. The last line is 'N passed, M failed'.
-# Use: tests/c/run.sh, anywhere; with an archive that is built: ARCHIVE=FILE tests/c/run.sh; with more random scripts:
-# RANDOM_SCRIPTS=10000 tests/c/run.sh
+# Use: tests/c/run.sh, anywhere; with an archive that is built: ARCHIVE=FILE tests/c/run.sh; with
+# more random scripts: RANDOM_SCRIPTS=10000 tests/c/run.sh
 set -u
 top=$(CDPATH= cd -- "$(dirname -- "$0")/../.." && pwd)
 cd "$top" || exit 2
@@ -59,7 +59,7 @@ try "the header's calls are those of the archive" declared
 
 warnings="-Wall -Wextra -Wpedantic -Wshadow -Werror"
 c_files="c/mapdb_heap.c examples/c/smallest.c examples/c/two_processors.c tests/c/calls.c
-    tests/c/counting_heap.c tests/c/script.c"
+    tests/c/counting_heap.c tests/c/script.c bench/c/calls.c"
 for compiler in gcc clang; do
     command -v $compiler >/dev/null 2>&1 || continue
     for file in $c_files; do
@@ -99,6 +99,10 @@ for way in plain sanitized; do
     try "calls, $way" "$build/calls_$way"
     try "calls in C++, $way" "$build/calls_cpp_$way"
 done
+
+# What calls cost is told, and no cost is asked for.
+compiled costs gcc -O2 bench/c/calls.c c/mapdb_heap.c
+try "what calls cost" "$build/costs"
 
 # A program with no C library at all.
 freestanding() {

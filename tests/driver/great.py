@@ -83,13 +83,161 @@ def chain_one_by_one(length: int) -> Script:
     return script_of("deepest_chain_one_by_one_%d" % length, pairs)
 
 
-def long_threads() -> Script:
-    """Two processors that end 1,000 spaces each, over links that hold one message."""
-    lines = ["processors 2"] + ["end %d %d" % (space // 1001, space) for space in range(1, 2001)]
-    told = ["processor %d commands 1000 issued 1000\n" % processor for processor in range(2)]
+def wide_load(
+    cuts: Iterable[int], ended: Iterable[int], records: Iterable[tuple[int, int, int, int]]
+) -> str:
+    """A snapshot as it is saved: each cut takes the right to write from one page, the only one of
+    the record of this number; a record is its number, space, page and parent, and has its page."""
+    rows = {
+        "cuts": ["[%d,0,%d,12,2]" % (page, page) for page in cuts],
+        "ended": ["[%d,0]" % space for space in ended],
+        "records": [
+            "[%d,0,%d,0,%d,12,%d,0,%d,7]" % (number, space, page, parent, page)
+            for number, space, page, parent in records
+        ],
+    }
+    lists = ",".join('"%s":[%s]' % (key, ",".join(listed)) for key, listed in rows.items())
+    return '{%s,"version":3}' % lists
+
+
+def nearly_full(missing: int) -> str:
+    """A snapshot that lacks so many operations to fill a copy: 40,000 pages of space 1, each
+    mapped to itself, of which every other of the first 20,000 may not be written, and ends."""
+    return wide_load(
+        range(2, 20001, 2),
+        range(2, 15538 - missing),
+        ((page, 1, page, 0) for page in range(1, 40001)),
+    )
+
+
+def full_copy_told() -> Script:
+    """A full copy is sent, delivered, merged, compared, asked, saved and loaded again."""
+    text = nearly_full(0)
+    return script_of("full_copy_told", [
+        ("processors 3", ""),
+        ("load 0 " + text, "taken 65536"),
+        ("send 0 0 65536", "message 0 65536"),
+        ("deliver 0 1", "taken 65536"),
+        ("deliver 0 1", "taken 0"),
+        ("merge 2 1", "taken 65536"),
+        ("merge 0 2", "taken 0"),
+        ("same 0 2", "same yes"),
+        ("covers 1 0", "covers yes"),
+        ("end 2 60000", "refused full"),
+        ("rights 2 1 4e20000", "rights 04e20:r-x"),
+        ("served 2 1 4e21000", "served 04e21:rwx"),
+        ("save 2", "snapshot " + text),
+        ("load 0 " + text, "taken 0")])
+
+
+def copy_filled() -> Script:
+    """The last three operations that a copy holds; what issues none is still done."""
+    return script_of("copy_filled", [
+        ("processors 1", ""),
+        ("load 0 " + nearly_full(3), "taken 65533"),
+        ("map 0 0 0/12:rwx 0 1 0/12", "records 40001.0"),
+        ("unmap 0 1 0/12:-w- flush", "revocations 1"),
+        ("end 0 60000", "ended 60000"),
+        ("end 0 60001", "refused full"),
+        ("map 0 0 0/12:rwx 0 1 0/12", "refused full"),
+        ("unmap 0 1 1000/12:rwx flush", "refused full"),
+        ("unmap 0 1 0/12:-w- flush", "revocations 0"),
+        ("served 0 1 0", "served 00000:r-x")])
+
+
+def chain_at_the_last_page() -> Script:
+    """The deepest chain at the last page, each record in a space of its own but two."""
+    page = (1 << 36) - 1
+    records = ((parent + 1, parent % 65535 + 1, page, parent) for parent in range(CHAIN))
+    return script_of("deepest_chain_at_the_last_page", [
+        ("processors 1", ""),
+        ("load 0 " + wide_load([], [], records), "taken %d" % CHAIN),
+        ("rights 0 1 fffffffff000", "rights fffffffff:rwx"),
+        ("served 0 65535 fffffffff000", "served fffffffff:rwx"),
+        ("unmap 0 0 fffffffff000/12:rwx flush", "refused full"),
+        ("end 0 9", "refused full")])
+
+
+MANY = 1203
+
+
+def many_commands() -> Script:
+    """Pages that are mapped, each to itself, of which every other one loses the right to write; the
+    table and the tree of them; and a Map and an Unmap of all of them."""
+    pairs = [("processors 1", "")]
+    table = ["table %d" % (MANY + 1), "row 0 00000 68719476736 00000:rwx"]
+    for page in range(1, MANY + 1):
+        pairs.append(("map 0 0 %x000/12:rwx 0 1 %x000/12" % (page, page), "records %d.0" % page))
+        rights = "rwx"
+        if page % 2 == 0:
+            pairs.append(("unmap 0 1 %x000/12:-w- flush" % page, "revocations 1"))
+            rights = "r-x"
+        table.append("row 1 %05x 1 %05x:%s" % (page, page, rights))
+    return script_of("many_commands", pairs + [
+        ("table 0", "\n".join(table)),
+        ("tree 1 4b2000", "tree 004b2:r-x"),
+        ("tree 1 4b3000", "tree 004b3:rwx"),
+        ("tree 1 4b4000", "tree none"),
+        ("map 0 0 0/32:rwx 0 2 0/32", "records %d.0" % (MANY + 1)),
+        ("tree 2 4b2000", "tree 004b2:rwx"),
+        ("unmap 0 0 0/32:-w- keep", "revocations %d" % (MANY // 2 + 2)),
+        ("tree 2 fffff000", "tree fffff:r-x")])
+
+
+def long_way() -> Script:
+    """A page that is handed on through 100 spaces, and the tree of it."""
+    pairs = [("processors 1", "")]
+    pairs += [
+        ("map 0 %d 10000/12:rwx 0 %d 10000/12" % (space - 1, space), "records %d.0" % space)
+        for space in range(1, 101)
+    ]
+    return script_of("long_way", pairs + [
+        ("tree 100 10000", "tree 00010:rwx"),
+        ("unmap 0 1 10000/12:-w- keep", "revocations 1"),
+        ("tree 1 10000", "tree 00010:rwx"),
+        ("tree 100 10000", "tree 00010:r-x"),
+        ("served 0 100 10000", "served 00010:r-x")])
+
+
+def pages_in_orders(count: int) -> Script:
+    """As many pages of memory, a power of 2, lose the right to write one after the other: up, down
+    and scattered. They are one run."""
+    pairs = [("processors 3", "")]
+    orders = [
+        range(count), reversed(range(count)), (step * 1013 % count for step in range(count))
+    ]
+    for processor, pages in enumerate(orders):
+        line = "unmap %d 0 %%x000/12:-w- flush" % processor
+        pairs += [(line % page, "revocations 1") for page in pages]
+    order = 12 + count.bit_length() - 1
+    run = wide_load([], [], []).replace('"cuts":[]', '"cuts":[[0,0,0,%d,2]]' % order)
+    pairs += [("save %d" % processor, "snapshot " + run) for processor in range(3)]
+    return script_of("pages_in_orders", pairs + [
+        ("same 0 1", "same yes"), ("same 1 2", "same yes"), ("table 0", "\n".join([
+            "table 2", "row 0 00000 %d 00000:r-x" % count,
+            "row 0 %05x %d %05x:rwx" % (count, (1 << 36) - count, count)]))])
+
+
+def full_copies() -> list[Script]:
+    """Copies that are full, or nearly, and many commands."""
+    return [full_copy_told(), copy_filled(), chain_at_the_last_page(), many_commands(),
+            long_way(), pages_in_orders(4096)]
+
+
+def long_threads(processors: int) -> Script:
+    """So many processors that end 1,500 spaces each, over links that hold one message."""
+    lines = ["processors %d" % processors]
+    lines += [
+        "end %d %d" % (processor, 1500 * processor + step)
+        for step in range(1, 1501) for processor in range(processors)
+    ]
+    told = [
+        "processor %d commands 1500 issued 1500\n" % processor for processor in range(processors)
+    ]
     output = "".join(told + ["same yes\n"]).encode()
     source = "\n".join(lines).encode()
-    return Script("long_threads", ["threads", "--capacity", "1"], source, output, 0)
+    name = "long_threads_%d" % processors
+    return Script(name, ["threads", "--capacity", "1"], source, output, 0)
 
 
 def line_limits() -> list[Script]:
@@ -113,6 +261,17 @@ def line_limits() -> list[Script]:
         script("too_long_with_carriage_return", comment + b"\r\n", too_long),
         script("too_long_spaces", b" " * (LONGEST_LINE + 1), too_long),
         script("end_begins_no_line", b"# one\n"),
+    ]
+
+
+def last_lines() -> list[Script]:
+    """The last line that is read is answered, and the one behind it is not."""
+    script = b"\n" * (MOST_LINES - 2) + b"processors 1\nsame 0 0\n"
+    fault = b"line 1000001 fault too-many-lines\n"
+    more = script + b"same 0 0\n"
+    return [
+        Script("lines_last_is_answered", ["run"], script, b"same yes\n", 0),
+        Script("lines_behind_the_last", ["run"], more, b"same yes\n" + fault, 1),
     ]
 
 

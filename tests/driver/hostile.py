@@ -16,7 +16,9 @@ def run_hostile(program: Program, short: bool) -> Tally:
     """The stored rows that are hostile, and those that are made; the slow ones in the long form
     only."""
     scripts = [script for script in rows() if script.name.startswith(HOSTILE)]
-    scripts += great.line_limits() + [great.long_threads(), great.chain_one_by_one(SHORT_CHAIN)]
+    scripts += great.line_limits() + great.last_lines() + great.full_copies()
+    scripts += [great.long_threads(count) for count in (2, 4)]
+    scripts.append(great.chain_one_by_one(SHORT_CHAIN))
     scripts += [great.in_threads(script) for script in great.line_limits() if script.status == 1]
     slow = [] if short else slow_scripts()
     tally = run_all("hostile", program, scripts, SHORT_LIMIT)

@@ -43,7 +43,8 @@ class Series(NamedTuple):
         if found == whole:
             return "whole"
         is_front = whole.output.startswith(found.output)
-        if found.status == 4 and found.errors == NO_MEMORY and is_front:
+        may_want = self.kind == "allocation"
+        if may_want and found.status == 4 and found.errors == NO_MEMORY and is_front:
             return "out of memory"
         faults = FAULTS_OF_THREADS[self.kind] if self.script.arguments[0] == "threads" else ()
         if found.status == 1 and found.output == b"" and found.errors in faults:

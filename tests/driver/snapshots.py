@@ -176,4 +176,7 @@ def odd_texts() -> list[tuple[str, bytes]]:
         ("the last page", with_record(page=(1 << 36) - 1, order=12, source=(1 << 36) - 1)),
         ("the greatest name", with_record(number=(1 << 40) - 1, processor=63)),
         ("the last version of a space", with_record(space=65535, space_version=(1 << 32) - 1)),
+        ("a page that was handed on through 60 spaces", text_with(
+            cuts=[], ended=[], records=[
+                [number, 0, number, 0, 65, 12, number - 1, 0, 65, 7] for number in range(1, 61)])),
     ]

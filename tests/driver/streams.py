@@ -78,15 +78,20 @@ def real_failures(program: Program) -> Iterator[Met]:
         with open("/dev/full", "wb") as full:
             found = program.run(["run"], source, stdout=full)
         yield Met(found == wanted, name, str(found))
+    for arguments, status in ((["walk"], 2), (["help"], 2), (["run"], 3)):
+        with open("/dev/full", "wb") as full:
+            found = run_on_folder(program, arguments, stderr=full)
+        name = "%s, with errors that nobody can be told" % arguments[0]
+        yield Met(found == Outcome(status, b"", b""), name, str(found))
     found = run_into_closed_pipe(program, script)
     yield Met(found == Outcome(3, b"", WRITE_FAILED), "a pipe that nobody reads", str(found))
 
 
-def run_on_folder(program: Program, arguments: list[str]) -> Outcome:
+def run_on_folder(program: Program, arguments: list[str], **streams) -> Outcome:
     """A run that fails as soon as it reads."""
     folder = os.open(os.path.dirname(os.path.abspath(__file__)), os.O_RDONLY)
     try:
-        return program.run(arguments, stdin=folder)
+        return program.run(arguments, stdin=folder, **streams)
     finally:
         os.close(folder)
 

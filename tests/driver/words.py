@@ -1,6 +1,5 @@
 """Words of the command line that are refused, and those that ask for help or the version."""
 
-import os
 import re
 from typing import Iterator
 
@@ -19,6 +18,9 @@ USAGE = {
     "picture": "l4map picture < SNAPSHOT",
     "explain": "l4map explain SPACE ADDRESS < SNAPSHOT",
 }
+USAGES = "\n\nUsage: %s\n" % "\n       ".join(USAGE.values())
+NO_CAPACITY = "error: the capacity of a link is a number from 1 to 1024" + USAGES
+CAPACITIES = ["0", "1025", "x", "+1"]
 SPACES = ["", "x", "-", "0x1", "1.", ".1", "1.x", "1.2.3", "65536", "1.4294967296", "1,2", "1e0",
           "1:0", "\u0661", "9" * 21, "#", "all", "1 ", " 1", "1 41000"]
 ADDRESSES = ["", "g", "0x41000", "41000h", "41000/12", "1000000000000", "0" * 17, "4_1", "nil",
@@ -38,7 +40,13 @@ def all_refused() -> list[tuple[list[str], str]]:
         (["picture", "1"], "error: unexpected argument '1' found\n"),
         (["picture", "--svg"], "error: unexpected argument '--svg' found\n"),
         (["pictures"], "error: unrecognized subcommand 'pictures'\n"),
-    ]
+        ([], "error: 'l4map' requires a subcommand but one was not provided"),
+        (["walk"], "error: unrecognized subcommand 'walk'\n"),
+        (["run", "script"], "error: unexpected argument 'script' found\n"),
+        (["threads", "script"], "error: unexpected argument 'script' found\n"),
+        (["--fast", "run"], "error: unexpected argument '--fast' found\n"),
+        (["threads", "--capacity"], "error: a value is required for '--capacity <N>'"),
+    ] + [(["threads", "--capacity", capacity], NO_CAPACITY) for capacity in CAPACITIES]
 
 
 def refused_words(program: Program) -> Iterator[Met]:
@@ -47,13 +55,16 @@ def refused_words(program: Program) -> Iterator[Met]:
         found = run_on_folder(program, arguments)
         holds = (found.status, found.output) == (2, b"") and is_refusal(found.errors, begin)
         yield Met(holds, "words %r" % arguments, str(found))
-    found = run_on_folder(program, ["explain", "1", os.fsdecode(b"\xff")])
-    wanted = Outcome(2, b"", b"l4map: the command line is not UTF-8\n")
-    yield Met(found == wanted, "words that are no UTF-8", difference(wanted, found))
+    for arguments in (["explain", "1", "\udcff"], ["\udcff"], ["run", "\udcc3"]):
+        found = run_on_folder(program, arguments)
+        wanted = Outcome(2, b"", b"l4map: the command line is not UTF-8\n")
+        yield Met(found == wanted, "words that are no UTF-8", difference(wanted, found))
 
 
 def is_refusal(errors: bytes, begin: str) -> bool:
-    return errors.startswith(begin.encode()) and b"\n\nUsage: l4map " in errors
+    """How the message begins, and that it says how the program is used, or how to learn that."""
+    says_more = b"\n\nUsage: l4map " in errors or errors.endswith(b"try '--help'.\n")
+    return errors.startswith(begin.encode()) and says_more
 
 
 # Help and the version
@@ -67,6 +78,9 @@ def helps(program: Program) -> Iterator[Met]:
         begin = "Usage: %s\n" % usage
         for arguments in ([name, "--help"], [name, "-h"], ["help", name]):
             yield told_as(program, arguments, [begin, "Status: 0 done, "])
+    lines = ["rights P S ADDR", "words P S FIRST SECOND R WINDOW"]
+    for arguments in (["--help"], ["help", "run"], ["run", "-h"]):
+        yield told_as(program, arguments, lines)
     version = re.search("^Version: (.*)$", stored_text("mapdb.pc.in"), re.M)[1]
     for arguments in (["--version"], ["-V"]):
         yield told_as(program, arguments, ["l4map %s (rattle-kit-" % version])

@@ -26,14 +26,14 @@ PROGRAMS = [
      "hostile_snapshots_not_json", '"$program" "$@" | sed "s/^refused snapshot.*/taken 0/"'),
     ("an end without a word", "deepest_chain.*: reply 1: .*; status wanted 0, found -9",
      "deepest_chain_one_by_one_%d" % CHAIN, "kill -KILL $$"),
-    ("a link that loses a message", "long_threads: reply 3: wanted b'same yes', found b'same no'",
-     "long_threads", '"$program" "$@" | sed "s/same yes/same no/"'),
+    ("a link that loses a message", "long_threads_2: reply 3: wanted b'same yes', found b'same no'",
+     "long_threads_2", '"$program" "$@" | sed "s/same yes/same no/"'),
 ]
 
 
 def made_scripts() -> list[Script]:
     """Those of the made scripts that are quick."""
-    return great.line_limits() + [great.long_threads(), great.chain_one_by_one(CHAIN)]
+    return great.line_limits() + [great.long_threads(2), great.chain_one_by_one(CHAIN)]
 
 
 def script_named(name: str) -> Script:
@@ -49,7 +49,7 @@ def hostile_faults() -> list[Fault]:
     return [as_it_is] + [by_program(*row) for row in PROGRAMS] + [
         by_reply("a reply that is wanted otherwise", "deepest_chain_one_by_one_%d" % CHAIN,
                  b"rights 00010:rwx", b"rights 00010:rw-"),
-        by_reply("a count that is wanted otherwise", "long_threads", b"issued 1000",
+        by_reply("a count that is wanted otherwise", "long_threads_2", b"issued 1500",
                  b"issued 999"),
     ]
 

@@ -90,14 +90,10 @@ def run_all_of(
     """Runs `all` in a folder where its first two parts and the builder of the archive are others,
     and the rest has nothing to tell."""
     top = os.path.join(scene.folder, "all-" + name.replace(" ", "-"))
-    for folder in ("crates", os.path.join("tests", "c")):
-        os.makedirs(os.path.join(top, folder))
-    for file in ("crates.txt", "HANDLES"):
-        open(os.path.join(top, file), "w").close()
+    os.makedirs(os.path.join(top, "tests", "c"))
     shutil.copy(os.path.join(TESTS, "all"), os.path.join(top, "tests"))
     write_part(os.path.join(top, "rt"), first)
-    write_part(os.path.join(top, "prove"), archive)
-    write_script(os.path.join(top, "nproc"), "echo 4")
+    write_part(os.path.join(top, "tests", "archive.sh"), archive)
     write_part(os.path.join(top, "tests", "run.py"), second)
     for path in LATER:
         write_part(os.path.join(top, path), Part("0 passed, 0 failed", 0))
