@@ -10,12 +10,12 @@ use Rattle.mapdb_fpage.specs.declared.right_sets.Right.{Right}
 use Rattle.mapdb_fpage.specs.declared.right_sets.Right.TheVariants.{Execute, Read, Write}
 use Rattle.mapdb_fpage.specs.declared.right_sets.Rights.{Rights}
 use Rattle.mapdb_join.specs.Bits.{has_bit}
-use Rattle.mapdb_join.specs.Runs.{HasNothingFrom, IsLeastRun as IsLeastOf, bits_after, has_at}
+use Rattle.mapdb_join.specs.Runs.{HasNothingFrom, IsLeastRun, bits_after, has_at}
 use Rattle.mapdb_join.specs.declared.runs.starts.Start.{Start}
 use Rattle.mapdb_facts.specs.Adding.{cut_at, same_rights}
 use Rattle.mapdb_facts.specs.Exact.{exact_rights}
 use Rattle.mapdb_facts.specs.Kept.{Cuts, bit_of, cut_in, id_cmp, rights_of_byte}
-use Rattle.mapdb_facts.specs.Runs.{BeginsFrom, ComesFirst, IsLeastRun, IsRunFrom, cut_runs, rights_by, runs_from}
+use Rattle.mapdb_facts.specs.Runs.{BeginsFrom, ComesFirst, IsLeastCutRun, IsRunFrom, cut_runs, rights_by, runs_from}
 use Rattle.mapdb_facts.specs.State.{State}
 use Rattle.mapdb_facts.specs.declared.names.RecordId.{RecordId}
 use Rattle.mapdb_facts.specs.declared.runs.CutRun.{CutRun}
@@ -67,8 +67,8 @@ module _ (starts : List Start) (atoms : (q bit : ℕ) → has_at starts (q, bit)
   pub nothing_rights : (page : ℕ) → HasNothingFrom page starts → IsRunFrom (rights_by (Some starts)) page None
   nothing_rights page none q from = ap is_empty (rights_are q ∙ ap rights_of_byte (none q from))
 
-  pub least_rights : (page first count bits : ℕ) → IsLeastOf starts page first count bits
-      → IsLeastRun (rights_by (Some starts)) page (record { first_page = first; page_count = count; rights = rights_of_byte bits })
+  pub least_rights : (page first count bits : ℕ) → IsLeastRun starts page first count bits
+      → IsLeastCutRun (rights_by (Some starts)) page (record { first_page = first; page_count = count; rights = rights_of_byte bits })
   least_rights page first count bits is =
       let pages : 0 < count = is.pages in
       let own : bits < 8 = subst (λ n. n < 8) (is.equal first (omega arith) (omega (arith, pages))) (small first) in
@@ -132,18 +132,18 @@ module _ (f : ℕ → Rights) (page : ℕ) where
   pub none_same : IsRunFrom f page None → (q : ℕ) → page ≤ q → f q ≡ f page
   none_same none q from = both_empty (f q) (f page) (none q from) (none page (omega arith))
 
-  pub front_same : (run : CutRun) → IsLeastRun f page run → page < run.first_page → (q : ℕ) → page ≤ q → q < run.first_page → f q ≡ f page
+  pub front_same : (run : CutRun) → IsLeastCutRun f page run → page < run.first_page → (q : ℕ) → page ≤ q → q < run.first_page → f q ≡ f page
   front_same run is low q from to = both_empty (f q) (f page) (is.nothing_between q from to) (is.nothing_between page (omega arith) low)
 
-  pub front_other : (run : CutRun) → IsLeastRun f page run → page < run.first_page → same_rights (f run.first_page) (f page) ≡ false
+  pub front_other : (run : CutRun) → IsLeastCutRun f page run → page < run.first_page → same_rights (f run.first_page) (f page) ≡ false
   front_other run is low =
       let pages : 0 < run.page_count = is.pages in
       some_empty (f run.first_page) (f page) (ap is_empty (is.equal run.first_page (omega arith) (omega (arith, pages))) ∙ is.some) (is.nothing_between page (omega arith) low)
 
-  pub inside_same : (run : CutRun) → IsLeastRun f page run → run.first_page ≤ page → (q : ℕ) → page ≤ q → q < run.first_page + run.page_count → f q ≡ f page
+  pub inside_same : (run : CutRun) → IsLeastCutRun f page run → run.first_page ≤ page → (q : ℕ) → page ≤ q → q < run.first_page + run.page_count → f q ≡ f page
   inside_same run is low q from to = is.equal q (omega (arith, low, from)) to ∙ sym (is.equal page low is.reaches)
 
-  pub inside_other : (run : CutRun) → IsLeastRun f page run → run.first_page ≤ page → same_rights (f (run.first_page + run.page_count)) (f page) ≡ false
+  pub inside_other : (run : CutRun) → IsLeastCutRun f page run → run.first_page ≤ page → same_rights (f (run.first_page + run.page_count)) (f page) ≡ false
   inside_other run is low = subst (λ (r : Rights). same_rights (f (run.first_page + run.page_count)) r ≡ false) (sym (is.equal page low is.reaches)) is.ends
 
 -- no run goes on from the page before
@@ -166,7 +166,7 @@ begins_behind f page (Some run) apart is = elim (cases_lt run.first_page page) [
 ]
 
 -- behind a maximal run
-pub ends_behind : (f : ℕ → Rights) (page : ℕ) (run : CutRun) → IsLeastRun f page run → EndsBefore f (run.first_page + run.page_count)
+pub ends_behind : (f : ℕ → Rights) (page : ℕ) (run : CutRun) → IsLeastCutRun f page run → EndsBefore f (run.first_page + run.page_count)
 ends_behind f page run is q last =
     let pages = is.pages in
     subst (λ (r : Rights). same_rights (f (run.first_page + run.page_count)) r ≡ false) (sym (is.equal q (omega (arith, pages, last)) (omega (arith, last)))) is.ends

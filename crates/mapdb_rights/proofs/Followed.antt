@@ -2,8 +2,10 @@
 use Rattle.std.proofs.Common.{◌≡◌, ℕ, Bool, true, false, List, refl, sym, ap, subst, ◌∙◌, inl, inr}
 use Rattle.std.specs.Prelude.{◌⊎◌, Option, Some, None, if◌then◌else◌}
 use Rattle.mapdb_facts.specs.Looking.{Holds}
+use Rattle.mapdb_facts.specs.Merging.{IsNamed}
 use Rattle.mapdb_facts.specs.Names.{same_id}
 use Rattle.mapdb_facts.specs.State.{State, first_of, join, said}
+use Rattle.mapdb_facts.specs.WellFormed.{IsFormedRecord}
 use Rattle.mapdb_facts.specs.declared.names.RecordId.{RecordId}
 use Rattle.mapdb_facts.specs.declared.names.Space.{Space}
 use Rattle.mapdb_facts.specs.declared.operations.Op.{Op}
@@ -52,10 +54,15 @@ of_held_on S before T set is are e has = let one = are e has in record { r = one
 -- what holds the same records has the same listed
 pub listed_alike : (S before : State) (T : State) (set : Places) → S ≡ join before T → ((id : RecordId) → T.record_at id ≡ None) → AreListed before set → AreListed S set
 listed_alike S before T set is none are = record {
-  places = λ r held. are.places r (sym (first_alone (before.record_at r.id)) ∙ sym (ap (first_of (before.record_at r.id)) (none r.id)) ∙ sym (ap (λ (U : State). U.record_at r.id) is) ∙ held);
+  named = λ id r held. are.named id r (alike id ∙ held);
+  formed = λ r held. are.formed r (alike r.id ∙ held);
+  places = λ r held. are.places r (alike r.id ∙ held);
   aligned = are.aligned;
   held = of_held_on S before T set is are.held;
 }
+  where
+    alike : (id : RecordId) → before.record_at id ≡ S.record_at id
+    alike id = sym (first_alone (before.record_at id)) ∙ sym (ap (first_of (before.record_at id)) (none id)) ∙ sym (ap (λ (U : State). U.record_at id) is)
 
 pub listed_by_cut : (S before : State) (cut : Revocation) (set : Places) → S ≡ join before (said (Cut cut)) → AreListed before set → AreListed S set
 listed_by_cut S before cut set is are = listed_alike S before (said (Cut cut)) set is (λ id. refl) are
@@ -87,8 +94,10 @@ module _ (old new : Places) (kept : (e : Listed) → is_listed old e ≡ true �
   listed_of r held None at e = newly r held (same_id m.id r.id) e
   listed_of r held (Some s) at e = listed_on old new kept r (listed.places r (at ∙ e))
 
-  pub listed_by_record : AllAligned new → AreOfHeld S new → AreListed S new
-  listed_by_record aligned held_all = record {
+  pub listed_by_record : AllAligned new → AreOfHeld S new → IsNamed S → ((r : Record) → Holds S r → IsFormedRecord r) → AreListed S new
+  listed_by_record aligned held_all named formed = record {
+    named = named;
+    formed = formed;
     places = λ r held. listed_of r held (before.record_at r.id) refl (looked r (before.record_at r.id) refl held);
     aligned = aligned;
     held = held_all;

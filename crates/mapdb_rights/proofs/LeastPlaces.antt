@@ -17,7 +17,7 @@ use Rattle.std.proofs.lemmas.List.Folds.{list_any_at}
 use Rattle.std.proofs.lemmas.List.Kept.{IsStrictlySortedBy-filter}
 use Rattle.std.proofs.lemmas.Map.Views.{any-filter_same}
 use Rattle.mapdb_rights.specs.declared.index.own_places.OwnPlace.{OwnPlace}
-use Rattle.mapdb_rights.specs.OwnPlaces.{IsLeast, IsLeastPlace, IsNextPlace, is_beyond, is_next, lesser_place, lesser_where, own_meets, place_cmp, stands}
+use Rattle.mapdb_rights.specs.OwnPlaces.{IsFirstPlaceWhere, IsLeastPlace, IsNextPlace, is_beyond, is_next, lesser_place, lesser_where, own_meets, place_cmp, stands}
 use Rattle.mapdb_rights.proofs.ListedOrder.{less_from}
 use Rattle.mapdb_rights.proofs.PlaceOrder.{at_back, exact_place, le_as, le_is, le_itself, le_on, lt_le, not_before, place_itself, place_total}
 
@@ -82,7 +82,7 @@ module _ (test : OwnPlace → Bool) (done : List OwnPlace) (p : OwnPlace) where
   new_stands = stands_more done p p ∙ ap (λ (b : Bool). b || stands done p) (place_itself p)
 
   -- where the new place passes
-  with_passing : (found : Option OwnPlace) → test p ≡ true → IsLeast test done found → IsLeastPlace test (done ++ p ∷ []) (lesser_place found p)
+  with_passing : (found : Option OwnPlace) → test p ≡ true → IsFirstPlaceWhere test done found → IsLeastPlace test (done ++ p ∷ []) (lesser_place found p)
   with_passing None pass h = record {
     held = new_stands;
     passing = pass;
@@ -112,10 +112,10 @@ module _ (test : OwnPlace → Bool) (done : List OwnPlace) (p : OwnPlace) where
       }
 
   -- the least so far, and the least with one place more
-  pub least_more : (found : Option OwnPlace) → IsLeast test done found → IsLeast test (done ++ p ∷ []) (lesser_where test found p)
+  pub least_more : (found : Option OwnPlace) → IsFirstPlaceWhere test done found → IsFirstPlaceWhere test (done ++ p ∷ []) (lesser_where test found p)
   least_more found h = by (test p) refl found h
     where
-      by : (b : Bool) → test p ≡ b → (found : Option OwnPlace) → IsLeast test done found → IsLeast test (done ++ p ∷ []) (if b then Some (lesser_place found p) else found)
+      by : (b : Bool) → test p ≡ b → (found : Option OwnPlace) → IsFirstPlaceWhere test done found → IsFirstPlaceWhere test (done ++ p ∷ []) (if b then Some (lesser_place found p) else found)
       by true pass found h = with_passing found pass h
       by false fails None h = λ k has. elim (either_stands k has) [
         | inl same ↦ ap test (sym same) ∙ fails
@@ -131,13 +131,13 @@ module _ (test : OwnPlace → Bool) (done : List OwnPlace) (p : OwnPlace) where
       }
 
 pub least_step : (test : OwnPlace → Bool) (places : List OwnPlace) (i : ℕ) (d : OwnPlace) (found : Option OwnPlace) → i < length places
-    → IsLeast test (take i places) found → IsLeast test (take (i + 1) places) (lesser_where test found (get_or places i d))
+    → IsFirstPlaceWhere test (take i places) found → IsFirstPlaceWhere test (take (i + 1) places) (lesser_where test found (get_or places i d))
 least_step test places i d found inside h =
-    subst (λ (done : List OwnPlace). IsLeast test done (lesser_where test found (get_or places i d))) (sym (take_more places i d inside))
+    subst (λ (done : List OwnPlace). IsFirstPlaceWhere test done (lesser_where test found (get_or places i d))) (sym (take_more places i d inside))
     (least_more test (take i places) (get_or places i d) found h)
 
 -- the least of those that come after another and meet the pages
-pub next_of : (places : List OwnPlace) (first end : ℕ) (after r : Option OwnPlace) → IsLeast (is_next after first end) places r → IsNextPlace places first end after r
+pub next_of : (places : List OwnPlace) (first end : ℕ) (after r : Option OwnPlace) → IsFirstPlaceWhere (is_next after first end) places r → IsNextPlace places first end after r
 next_of places first end after None h = λ k has above. sym (ap (λ (b : Bool). b && own_meets k first end) above) ∙ h k has
 next_of places first end after (Some p) h =
     let both = and_parts (is_beyond after p) (own_meets p first end) h.passing in

@@ -7,7 +7,7 @@ use Rattle.std.specs.declared.ops.Bound.TheVariants.{Excluded, Included}
 use Rattle.std.proofs.lemmas.Bool.{cases_Bool, ltb-true, ltb-false, true≢false}
 use Rattle.std.proofs.lemmas.Nat.{pow_pos}
 use Rattle.mapdb_rights.specs.declared.index.own_places.OwnPlace.{OwnPlace}
-use Rattle.mapdb_rights.specs.OwnPlaces.{AreAligned, HasReached, HasReachedFrom, IsAlignedPlace, IsLeast, IsNextPlace, IsReached, is_beyond, orders_ahead, own_meets, own_pages, place_cmp, stands, start}
+use Rattle.mapdb_rights.specs.OwnPlaces.{AreAligned, HasReached, HasReachedFrom, IsAlignedPlace, IsFirstPlaceWhere, IsNextPlace, IsReachedAbove, is_beyond, orders_ahead, own_meets, own_pages, place_cmp, stands, start}
 use Rattle.mapdb_rights.specs.Standing.{HaveOrders, IsLeastOrder, IsNextOrder, has_order}
 use Rattle.mapdb_rights.specs.declared.index.orders.Orders.{Orders}
 use Rattle.mapdb_rights.proofs.ListedOrder.{less_from}
@@ -88,7 +88,7 @@ same_orders a b x y same some none = omega arith
 
 module _ (places : List OwnPlace) (low : OwnPlace) where
   -- what comes no earlier than the bound and stands among the places
-  pub not_from : (k : OwnPlace) → IsLeast (is_from_start place_cmp (Included low)) places None → stands places k ≡ true → ¬ (is_gt (place_cmp low k) ≡ false)
+  pub not_from : (k : OwnPlace) → IsFirstPlaceWhere (is_from_start place_cmp (Included low)) places None → stands places k ≡ true → ¬ (is_gt (place_cmp low k) ≡ false)
   not_from k h has up = true≢false (sym (le_as (place_cmp low k) up) ∙ h k has)
 
 -- ---- the first of an order on
@@ -127,7 +127,7 @@ module _ (places : List OwnPlace) (orders : Orders) (aligned : AreAligned places
           | inr both ↦ let same = both.0 in omega arith
         ]
 
-    pub first_reached : (r : Option OwnPlace) → IsLeast (is_from_start place_cmp (Included begins)) places r → HasReachedFrom places order first end r
+    pub first_reached : (r : Option OwnPlace) → IsFirstPlaceWhere (is_from_start place_cmp (Included begins)) places r → HasReachedFrom places order first end r
     first_reached None h = λ k has up.
         elim (cases_Bool (own_meets k first end)) [
           | inl so ↦ absurd (not_from places begins k h has (from_start k has up so))
@@ -181,7 +181,7 @@ module _ (places : List OwnPlace) (first end : ℕ) (c : OwnPlace) where
         | inr both ↦ let lower = before_low (own_pages c) first c.first (some_pages c) before in let upper = both.1 in inr (both.0, omega arith)
       ]
 
-  pub pass_low : (r : Option OwnPlace) → AreAligned places → c.first + own_pages c ≤ first → IsLeast (is_from_start place_cmp (Included low)) places r
+  pub pass_low : (r : Option OwnPlace) → AreAligned places → c.first + own_pages c ≤ first → IsFirstPlaceWhere (is_from_start place_cmp (Included low)) places r
       → HasReached places first end (Some c) r
   pass_low None all before h = λ k has above.
       elim (cases_Bool (own_meets k first end)) [
@@ -194,7 +194,7 @@ module _ (places : List OwnPlace) (first end : ℕ) (c : OwnPlace) where
     least = λ k has above meeting. h.least k has (le_as (place_cmp low k) (from_low first end c k (all k has) above meeting));
   }
 
-  pub fewer_low : (r : Option OwnPlace) → AreAligned places → c.first + own_pages c ≤ first → IsLeast (is_from_start place_cmp (Included low)) places r
+  pub fewer_low : (r : Option OwnPlace) → AreAligned places → c.first + own_pages c ≤ first → IsFirstPlaceWhere (is_from_start place_cmp (Included low)) places r
       → orders_ahead first r < orders_ahead first (Some c)
   fewer_low None all before h = omega arith
   fewer_low (Some p) all before h =
@@ -217,7 +217,7 @@ module _ (places : List OwnPlace) (first end : ℕ) where
     least = λ k has above meeting. h.least k has (omega arith) meeting;
   }
 
-  pub begin_above : (after : OwnPlace) (r : Option OwnPlace) → IsLeast (is_from_start place_cmp (Excluded after)) places r → HasReached places first end (Some after) r
+  pub begin_above : (after : OwnPlace) (r : Option OwnPlace) → IsFirstPlaceWhere (is_from_start place_cmp (Excluded after)) places r → HasReached places first end (Some after) r
   begin_above after None h = λ k has above. absurd (true≢false (sym above ∙ h k has))
   begin_above after (Some p) h = record {
     held = h.held;
@@ -232,7 +232,7 @@ module _ (places : List OwnPlace) (first end : ℕ) where
   above_on (Some a) c p h k = ap is_lt (place_total.trans a c p (less_from (place_cmp a c) h) (less_from (place_cmp c p) k))
 
   -- what meets the pages stands above a place that does not
-  beyond : (after : Option OwnPlace) (c k : OwnPlace) → IsReached places first end after c → own_meets c first end ≡ false → stands places k ≡ true
+  beyond : (after : Option OwnPlace) (c k : OwnPlace) → IsReachedAbove places first end after c → own_meets c first end ≡ false → stands places k ≡ true
       → is_beyond after k ≡ true → own_meets k first end ≡ true → is_beyond (Some c) k ≡ true
   beyond after c k reached apart has above meeting =
       elim (same_or_above c k (reached.least k has above meeting)) [
@@ -240,7 +240,7 @@ module _ (places : List OwnPlace) (first end : ℕ) where
         | inr less ↦ ap is_lt less
       ]
 
-  pub reached_on : (after : Option OwnPlace) (c : OwnPlace) (r : Option OwnPlace) → IsReached places first end after c → own_meets c first end ≡ false
+  pub reached_on : (after : Option OwnPlace) (c : OwnPlace) (r : Option OwnPlace) → IsReachedAbove places first end after c → own_meets c first end ≡ false
       → HasReached places first end (Some c) r → HasReached places first end after r
   reached_on after c None reached apart h = λ k has above.
       elim (cases_Bool (own_meets k first end)) [

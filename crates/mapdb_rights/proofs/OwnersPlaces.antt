@@ -18,7 +18,7 @@ use Rattle.mapdb_rights.specs.declared.index.places.Owner.TheVariants.{Record, S
 use Rattle.mapdb_rights.specs.declared.index.places.Places.{Places}
 use Rattle.mapdb_rights.specs.contracts.index.places.OwnerPartialEq.TheImpl as owner_eq
 use Rattle.mapdb_rights.specs.Listing.{AllAligned, IsFirstInside, IsLastEntryWhereSaid, IsNextMeeting, entries_among, found_entry, found_for, is_above, is_among, is_listed, listed_cmp, listed_for, own_place, places_among, places_in, same_owner}
-use Rattle.mapdb_rights.specs.OwnPlaces.{AreAligned, IsLastWhereSaid, IsLeast, IsNextPlace, found_place, is_beyond, own_list, place_cmp, stands}
+use Rattle.mapdb_rights.specs.OwnPlaces.{AreAligned, IsFirstPlaceWhere, IsLastWhereSaid, IsNextPlace, found_place, is_beyond, own_list, place_cmp, stands}
 use Rattle.mapdb_rights.proofs.ListedOrder.{exact_owner, less_from, listed_apart, owner_is, same_then}
 use Rattle.mapdb_rights.proofs.PlaceOrder.{le_as, le_is}
 
@@ -70,7 +70,7 @@ module _ (set : Places) (owner : Owner) (places : List OwnPlace) (is : places_am
   pub own_aligned : AllAligned set → AreAligned places
   own_aligned all p has = all (listed_for owner p) (back p has)
 
-  pub first_from_own : (from : Listed) → from.owner ≡ owner → (r : Option OwnPlace) → IsLeast (is_from_start place_cmp (Included (own_place from))) places r
+  pub first_from_own : (from : Listed) → from.owner ≡ owner → (r : Option OwnPlace) → IsFirstPlaceWhere (is_from_start place_cmp (Included (own_place from))) places r
       → IsFirstInside set owner (Included from) (option_map (listed_for owner) r)
   first_from_own from same None h = λ k has own up.
       true≢false (sym (le_as (place_cmp (own_place from) (own_place k)) (sym (ap is_gt (cmp_is from k (same ∙ sym own))) ∙ up)) ∙ h (own_place k) (there k own has))
@@ -82,7 +82,7 @@ module _ (set : Places) (owner : Owner) (places : List OwnPlace) (is : places_am
         ∙ h.least (own_place k) (there k own has) (le_as (place_cmp (own_place from) (own_place k)) (sym (ap is_gt (cmp_is from k (same ∙ sym own))) ∙ up));
   }
 
-  pub first_above_own : (after : Listed) → after.owner ≡ owner → (r : Option OwnPlace) → IsLeast (is_from_start place_cmp (Excluded (own_place after))) places r
+  pub first_above_own : (after : Listed) → after.owner ≡ owner → (r : Option OwnPlace) → IsFirstPlaceWhere (is_from_start place_cmp (Excluded (own_place after))) places r
       → IsFirstInside set owner (Excluded after) (option_map (listed_for owner) r)
   first_above_own after same None h = λ k has own up.
       true≢false (sym (sym (ap is_lt (cmp_is after k (same ∙ sym own))) ∙ ap is_lt up) ∙ h (own_place k) (there k own has))

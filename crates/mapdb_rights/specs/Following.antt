@@ -1,15 +1,22 @@
 -- What an index keeps, and what it stands for.
 use Rattle.std.specs.Prelude.{◌≡◌}
+use Rattle.mapdb_facts.specs.Looking.{Holds}
+use Rattle.mapdb_facts.specs.Merging.{IsNamed}
 use Rattle.mapdb_facts.specs.State.{State, join, said}
+use Rattle.mapdb_facts.specs.WellFormed.{IsFormedRecord}
 use Rattle.mapdb_facts.specs.declared.operations.Op.{Op}
+use Rattle.mapdb_facts.specs.declared.operations.Record.{Record}
 use Rattle.mapdb_rights.specs.declared.index.changes.AllChanges.{AllChanges}
 use Rattle.mapdb_rights.specs.Caching.{AreRights}
 use Rattle.mapdb_rights.specs.Changes.{AreFrames, cached_in}
 use Rattle.mapdb_rights.specs.Listing.{AllAligned, AreOfHeld, HasPlaces}
 use Rattle.mapdb_rights.specs.declared.index.places.Places.{Places}
 
--- each record that is held is listed and no other, and what is listed is aligned
+-- each record that is held is listed and no other, and what is listed is aligned; each record that
+-- is held stands under its own name and is well-formed
 pub record AreListed (S : State) (listed : Places) : Type 0 where
+  pub named : IsNamed S
+  pub formed : (r : Record) → Holds S r → IsFormedRecord r
   pub places : HasPlaces S listed
   pub aligned : AllAligned listed
   pub held : AreOfHeld S listed

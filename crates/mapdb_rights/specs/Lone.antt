@@ -25,23 +25,23 @@ abbrev pub lone_where : Bool → RecordId → Change → Lone → Lone
 lone_where has id change found = if has then lone_with id change found else found
 
 -- the one that was found has a right at the page of the space, and this is cached of it
-abbrev pub IsFound : State → Changes → Space → ℕ → Lone → Type 0
-IsFound S changes space page Nothing = Unit {0}
-IsFound S changes space page (One id change) =
+abbrev pub IsLoneFound : State → Changes → Space → ℕ → Lone → Type 0
+IsLoneFound S changes space page Nothing = Unit {0}
+IsLoneFound S changes space page (One id change) =
     IsLive S space page id × (change ≡ seen_in changes id page)
-IsFound S changes space page Several = Unit {0}
+IsLoneFound S changes space page Several = Unit {0}
 
 -- the record is among those that were found, as far as they are told
-abbrev pub IsWithin : Lone → RecordId → Type 0
-IsWithin Nothing id = ⊥
-IsWithin (One other change) id = other ≡ id
-IsWithin Several id = Unit {0}
+abbrev pub IsToldBy : Lone → RecordId → Type 0
+IsToldBy Nothing id = ⊥
+IsToldBy (One other change) id = other ≡ id
+IsToldBy Several id = Unit {0}
 
 -- the one that was found is all that has a right there
 pub record IsLone (S : State) (changes : Changes) (space : Space) (page : ℕ) (lone : Lone)
     : Type 0 where
-  pub found : IsFound S changes space page lone
-  pub all : (id : RecordId) → IsLive S space page id → IsWithin lone id
+  pub found : IsLoneFound S changes space page lone
+  pub all : (id : RecordId) → IsLive S space page id → IsToldBy lone id
 
 -- one record of the space alone has a right at the page, and this pair there
 pub record HasPairAlone (S : State) (space : Space) (page : ℕ) (pair : ℕ × Rights)

@@ -25,9 +25,9 @@ pub record IsLeastPlace (test : OwnPlace → Bool) (places : List OwnPlace) (p :
   pub least : (k : OwnPlace) → stands places k ≡ true → test k ≡ true → IsLeBy place_cmp p k
 
 -- that place, where there is one
-abbrev pub IsLeast : (OwnPlace → Bool) → List OwnPlace → Option OwnPlace → Type 0
-IsLeast test places None = (k : OwnPlace) → stands places k ≡ true → test k ≡ false
-IsLeast test places (Some p) = IsLeastPlace test places p
+abbrev pub IsFirstPlaceWhere : (OwnPlace → Bool) → List OwnPlace → Option OwnPlace → Type 0
+IsFirstPlaceWhere test places None = (k : OwnPlace) → stands places k ≡ true → test k ≡ false
+IsFirstPlaceWhere test places (Some p) = IsLeastPlace test places p
 
 -- the lesser of two places, where there is another
 abbrev pub lesser_place : Option OwnPlace → OwnPlace → OwnPlace
@@ -81,7 +81,7 @@ IsNextPlace places first end after None = (k : OwnPlace) → stands places k ≡
 IsNextPlace places first end after (Some p) = IsLeastNext places first end after p
 
 -- a place above another, with none that meets the pages before it
-pub record IsReached (places : List OwnPlace) (first end : ℕ) (after : Option OwnPlace)
+pub record IsReachedAbove (places : List OwnPlace) (first end : ℕ) (after : Option OwnPlace)
     (p : OwnPlace) : Type 0 where
   pub held : stands places p ≡ true
   pub above : is_beyond after p ≡ true
@@ -92,7 +92,7 @@ pub record IsReached (places : List OwnPlace) (first end : ℕ) (after : Option 
 abbrev pub HasReached : List OwnPlace → ℕ → ℕ → Option OwnPlace → Option OwnPlace → Type 0
 HasReached places first end after None = (k : OwnPlace) → stands places k ≡ true
     → is_beyond after k ≡ true → own_meets k first end ≡ false
-HasReached places first end after (Some p) = IsReached places first end after p
+HasReached places first end after (Some p) = IsReachedAbove places first end after p
 
 -- a place of an order from one on, with none of these before it that meets the pages
 pub record IsReachedFrom (places : List OwnPlace) (order first end : ℕ) (p : OwnPlace)
@@ -118,7 +118,7 @@ spot_place spot = spot.place
 
 -- what comes behind the place is the least above it
 abbrev pub IsBehind : List OwnPlace → Spot → Type 0
-IsBehind places spot = IsLeast (is_beyond (Some spot.place)) places spot.next
+IsBehind places spot = IsFirstPlaceWhere (is_beyond (Some spot.place)) places spot.next
 
 -- the place that was found
 abbrev pub found_place : FoundPlace → OwnPlace

@@ -22,9 +22,9 @@ unfoldable pub runs_behind : (ℕ → Rights) → ℕ → List RightsRun
 runs_behind at page = map run_of (runs_from at page (page_limit - page))
 
 -- the first run from a page on, where there is one, and behind it those from its end on
-abbrev pub ComesFirst : (ℕ → Rights) → ℕ → Option RightsRun → Type 0
-ComesFirst at page None = runs_behind at page ≡ []
-ComesFirst at page (Some run) = runs_behind at page
+abbrev pub IsFirstRightsRun : (ℕ → Rights) → ℕ → Option RightsRun → Type 0
+IsFirstRightsRun at page None = runs_behind at page ≡ []
+IsFirstRightsRun at page (Some run) = runs_behind at page
     ≡ run ∷ runs_behind at (run.first_page + run.page_count)
 
 -- the maximal runs of pages over which a record has equal rights, and not none

@@ -33,7 +33,6 @@ fn record_after(facts: &Facts, space: Space, page: u64, after: Option<RecordId>)
     requires { IsLive (state_of_facts facts.now) space page root → is_after after root ≡ false }
     ensures { IsLiveFrom (state_of_facts facts.now) space page after result }
 {
-    facts.prove_held();
     let mut from = after;
     'records: while let Some(mapping) = facts.next_record(from) {
         if is_live(facts, space, page, &mapping) {

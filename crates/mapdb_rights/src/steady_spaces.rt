@@ -49,7 +49,6 @@ pub fn show_until(facts: &Facts, space: Space, page: u64) -> u64
     ensures limit { result ≤ PAGE_LIMIT }
     ensures shown { ShowUntil (state_of_facts facts.now) space page result }
 {
-    facts.prove_held();
     let mut end = root_until(facts, space, page);
     let mut after = None;
     'records: while let Some(mapping) = facts.next_record(after) {

@@ -27,7 +27,6 @@ pub fn settle_all(
     requires held { AreOfHeld (state_of_facts facts.now) listed.old }
     ensures { OnOk result (Stands changes.new listed.new (state_of_facts facts.now)) }
 {
-    facts.prove_held();
     list_records(listed, facts)?;
     let mut stack = Vec::new(alloc);
     stack.push(Stale {

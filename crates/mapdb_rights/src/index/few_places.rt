@@ -3,7 +3,8 @@
 ghost use Rattle.std.specs.Prelude.{◌≡◌, IfSome, option_map};
 ghost use Rattle.std.specs.BTreeMap.Range.{is_from_start};
 ghost use Rattle.mapdb_rights.specs.OwnPlaces.{AreAligned, IsAlignedPlace, IsLastWhereSaid};
-ghost use Rattle.mapdb_rights.specs.OwnPlaces.{IsLeast, IsNextPlace, found_place, is_beyond};
+ghost use Rattle.mapdb_rights.specs.OwnPlaces.{IsFirstPlaceWhere, IsNextPlace, found_place};
+ghost use Rattle.mapdb_rights.specs.OwnPlaces.{is_beyond};
 ghost use Rattle.mapdb_rights.specs.OwnPlaces.{is_next, lesser_place, lesser_where, place_cmp};
 
 use super::own_places::{FoundPlace, OwnPlace};
@@ -47,7 +48,7 @@ fn lesser_inside(
 
 /// The least of the places inside the bound.
 pub(crate) fn least_inside(places: &[OwnPlace], start: &Bound<OwnPlace>) -> Option<OwnPlace>
-    ensures { IsLeast (is_from_start place_cmp start.now) places.now result }
+    ensures { IsFirstPlaceWhere (is_from_start place_cmp start.now) places.now result }
 {
     let mut found = None;
     for place in places {

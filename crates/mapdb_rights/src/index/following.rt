@@ -76,7 +76,6 @@ pub fn follow_end(
     requires stood { Stood changes.old listed.now (Op.Closed space) (state_of_facts facts.now) }
     ensures { OnOk result (Stands changes.new listed.now (state_of_facts facts.now)) }
 {
-    facts.prove_held();
     let mut stack = Vec::new(alloc);
     push_space(&mut stack, listed, facts, space)?;
     settle(changes, &mut stack, listed, facts)

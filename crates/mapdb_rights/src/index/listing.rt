@@ -2,6 +2,8 @@
 
 ghost use Rattle.std.specs.Prelude.{◌≡◌, ◌⊎◌, true, OnOk, Some};
 ghost use Rattle.mapdb_facts.specs.Facts.{state_of_facts};
+ghost use Rattle.mapdb_facts.specs.Looking.{Holds};
+ghost use Rattle.mapdb_facts.specs.Merging.{IsNamed};
 ghost use Rattle.mapdb_facts.specs.WellFormed.{IsFormedRecord};
 ghost use Rattle.mapdb_facts.specs.declared.operations.Record.{Record};
 ghost use Rattle.mapdb_rights.specs.Following.{AreListed};
@@ -58,7 +60,8 @@ pub(crate) fn list_record(listed: &mut Places, mapping: &Record) -> Result<(), A
     list_place(listed, place)
 }
 
-/// Lists the record that is held under a name, where there is one.
+/// Lists the record that is held under a name, where there is one. Each held record stands under
+/// its own name and is well-formed.
 pub(crate) fn list_held(listed: &mut Places, facts: &Facts, id: RecordId) -> Result<(), AllocError>
     requires aligned { AllAligned listed.old }
     requires held { AreOfHeld (state_of_facts facts.now) listed.old }
@@ -68,6 +71,8 @@ pub(crate) fn list_held(listed: &mut Places, facts: &Facts, id: RecordId) -> Res
     ensures kept { OnOk result ((other : Listed) → is_listed listed.old other ≡ true
         → is_listed listed.new other ≡ true) }
     ensures held { OnOk result (AreOfHeld (state_of_facts facts.now) listed.new) }
+    ensures held_named { IsNamed (state_of_facts facts.now) }
+    ensures held_formed { (r : Record) → Holds (state_of_facts facts.now) r → IsFormedRecord r }
 {
     match facts.record(id) {
         Some(mapping) => list_record(listed, &mapping),

@@ -158,7 +158,6 @@ pub(crate) fn live_after(
     requires { Stands changes.now listed.now (state_of_facts facts.now) }
     ensures { IsLiveFrom (state_of_facts facts.now) space page after result }
 {
-    facts.prove_held();
     let owner = Owner::Space(space);
     let end = page.saturating_add(1);
     let mut found = root_after(changes, listed, facts, space, page, after);
@@ -185,7 +184,6 @@ pub(crate) fn all_live(
     ensures { IfOk result (λ found. found.items
         ≡ live_names (state_of_facts facts.now) (records_of_facts facts.now) space page) }
 {
-    facts.prove_held();
     let mut found = Vec::new(alloc);
     let mut after = None;
     'names: while let Some(id) = live_after(changes, listed, facts, space, page, after) {

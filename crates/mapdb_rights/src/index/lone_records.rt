@@ -8,7 +8,7 @@ ghost use Rattle.mapdb_rights.specs.Among.{is_shown};
 ghost use Rattle.mapdb_rights.specs.Changes.{seen_in};
 ghost use Rattle.mapdb_rights.specs.Following.{Stands};
 ghost use Rattle.mapdb_rights.specs.Live.{IsLive};
-ghost use Rattle.mapdb_rights.specs.Lone.{IsFound, IsLone, IsWithin, lone_where, lone_with};
+ghost use Rattle.mapdb_rights.specs.Lone.{IsLone, IsLoneFound, IsToldBy, lone_where, lone_with};
 ghost use Rattle.mapdb_rights.specs.PageRights.{is_record_into};
 
 use super::changes::{AllChanges, Change, seen_at};
@@ -42,8 +42,9 @@ impl Lone {
 /// The root, where it is of the space and has a right at the page.
 fn root_alone(changes: &AllChanges, listed: &Places, facts: &Facts, space: Space, page: u64) -> Lone
     requires { Stands changes.now listed.now (state_of_facts facts.now) }
-    ensures found { IsFound (state_of_facts facts.now) changes.now.own.entries space page result }
-    ensures there { IsLive (state_of_facts facts.now) space page root → IsWithin result root }
+    ensures found { IsLoneFound (state_of_facts facts.now) changes.now.own.entries space page
+        result }
+    ensures there { IsLive (state_of_facts facts.now) space page root → IsToldBy result root }
 {
     if !space.is_first() {
         return Lone::Nothing;
@@ -90,7 +91,6 @@ pub(crate) fn lone_live(
     requires { Stands changes.now listed.now (state_of_facts facts.now) }
     ensures { IsLone (state_of_facts facts.now) changes.now.own.entries space page result }
 {
-    facts.prove_held();
     let owner = Owner::Space(space);
     let end = page.saturating_add(1);
     let mut found = root_alone(changes, listed, facts, space, page);

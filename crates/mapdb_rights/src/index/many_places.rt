@@ -24,7 +24,7 @@ impl ManyPlaces {
     ghost use Rattle.std.specs.BTreeMap.Range.{is_from_start};
     ghost use Rattle.std.specs.declared.ops.Bound.TheVariants.{Excluded, Included};
     ghost use Rattle.mapdb_rights.specs.OwnPlaces.{AreAligned, HasReached, HasReachedFrom};
-    ghost use Rattle.mapdb_rights.specs.OwnPlaces.{IsBehind, IsLastWhereSaid, IsLeast};
+    ghost use Rattle.mapdb_rights.specs.OwnPlaces.{IsBehind, IsFirstPlaceWhere, IsLastWhereSaid};
     ghost use Rattle.mapdb_rights.specs.OwnPlaces.{IsNextPlace, found_place, orders_ahead};
     ghost use Rattle.mapdb_rights.specs.OwnPlaces.{own_meets, place_cmp, spot_place, stands};
     ghost use Rattle.mapdb_rights.specs.declared.index.own_places.OwnPlace.{OwnPlace};
@@ -51,7 +51,8 @@ impl ManyPlaces {
 
     /// The least place from one on.
     pub(crate) fn first_from(&self, from: OwnPlace) -> Option<OwnPlace>
-        ensures { IsLeast (is_from_start place_cmp (Included from)) self.now.places.keys result }
+        ensures { IsFirstPlaceWhere (is_from_start place_cmp (Included from)) self.now.places.keys
+            result }
     {
         let spot = set_from(&self.places, from)?;
         Some(spot.place)
@@ -59,7 +60,8 @@ impl ManyPlaces {
 
     /// The least place above one.
     pub(crate) fn first_above(&self, after: OwnPlace) -> Option<OwnPlace>
-        ensures { IsLeast (is_from_start place_cmp (Excluded after)) self.now.places.keys result }
+        ensures { IsFirstPlaceWhere (is_from_start place_cmp (Excluded after)) self.now.places.keys
+            result }
     {
         let spot = set_above(&self.places, after)?;
         Some(spot.place)

@@ -7,7 +7,8 @@ ghost use Rattle.std.specs.BTreeMap.Range.{is_from_start};
 ghost use Rattle.std.specs.Ordering.{is_lt};
 ghost use Rattle.std.specs.declared.ops.Bound.TheVariants.{Excluded, Included};
 ghost use Rattle.mapdb_rights.specs.OwnPlaces.{AreAligned, IsAlignedPlace, IsLastWhereSaid};
-ghost use Rattle.mapdb_rights.specs.OwnPlaces.{IsLeast, IsNextPlace, found_place, own_list};
+ghost use Rattle.mapdb_rights.specs.OwnPlaces.{IsFirstPlaceWhere, IsNextPlace, found_place};
+ghost use Rattle.mapdb_rights.specs.OwnPlaces.{own_list};
 ghost use Rattle.mapdb_rights.specs.OwnPlaces.{own_meets, place_cmp, stands};
 ghost use Rattle.mapdb_rights.specs.declared.index.own_places.OwnPlace.{OwnPlace};
 
@@ -102,7 +103,8 @@ impl OwnPlaces {
 
     /// The least place from one on.
     pub(crate) fn first_from(&self, from: OwnPlace) -> Option<OwnPlace>
-        ensures { IsLeast (is_from_start place_cmp (Included from)) (own_list self.now) result }
+        ensures { IsFirstPlaceWhere (is_from_start place_cmp (Included from)) (own_list self.now)
+            result }
     {
         match self {
             OwnPlaces::Few(list) => least_inside(list.as_slice(), &Bound::Included(from)),
@@ -112,7 +114,8 @@ impl OwnPlaces {
 
     /// The least place above one.
     pub(crate) fn first_above(&self, after: OwnPlace) -> Option<OwnPlace>
-        ensures { IsLeast (is_from_start place_cmp (Excluded after)) (own_list self.now) result }
+        ensures { IsFirstPlaceWhere (is_from_start place_cmp (Excluded after)) (own_list self.now)
+            result }
     {
         match self {
             OwnPlaces::Few(list) => least_inside(list.as_slice(), &Bound::Excluded(after)),

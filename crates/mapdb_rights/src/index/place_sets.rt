@@ -3,7 +3,8 @@
 ghost use Rattle.std.specs.Prelude.{◌≡◌, ◌≤◌, ◌-◌, ◌%◌, ◌^◌, IfSome, option_map};
 ghost use Rattle.std.specs.BTreeMap.Range.{is_from_start};
 ghost use Rattle.std.specs.declared.ops.Bound.TheVariants.{Excluded, Included};
-ghost use Rattle.mapdb_rights.specs.OwnPlaces.{IsBehind, IsLeast, place_cmp, spot_place, start};
+ghost use Rattle.mapdb_rights.specs.OwnPlaces.{IsBehind, IsFirstPlaceWhere, place_cmp};
+ghost use Rattle.mapdb_rights.specs.OwnPlaces.{spot_place, start};
 
 use super::own_places::{OwnPlace, pages_of_order};
 use mapdb_facts::RecordId;
@@ -35,7 +36,7 @@ pub(crate) fn start_of(order: u8, page: u64) -> OwnPlace
 
 /// The least place from one on, and the one behind it.
 pub(crate) fn set_from(set: &BTreeSet<OwnPlace>, from: OwnPlace) -> Option<Spot>
-    ensures least { IsLeast (is_from_start place_cmp (Included from)) set.now.keys
+    ensures least { IsFirstPlaceWhere (is_from_start place_cmp (Included from)) set.now.keys
         (option_map spot_place result) }
     ensures behind { IfSome result (IsBehind set.now.keys) }
 {
@@ -57,7 +58,7 @@ pub(crate) fn set_from(set: &BTreeSet<OwnPlace>, from: OwnPlace) -> Option<Spot>
 
 /// The least place above one, and the one behind it.
 pub(crate) fn set_above(set: &BTreeSet<OwnPlace>, after: OwnPlace) -> Option<Spot>
-    ensures least { IsLeast (is_from_start place_cmp (Excluded after)) set.now.keys
+    ensures least { IsFirstPlaceWhere (is_from_start place_cmp (Excluded after)) set.now.keys
         (option_map spot_place result) }
     ensures behind { IfSome result (IsBehind set.now.keys) }
 {

@@ -4,7 +4,7 @@ ghost use Rattle.std.specs.Prelude.{◌≡◌, ◌≤◌, ◌<◌, ◌+◌, [], 
 ghost use Rattle.mapdb_fpage.specs.RightSets.{is_empty};
 ghost use Rattle.mapdb_facts.specs.Adding.{same_rights};
 ghost use Rattle.mapdb_rights.specs.Changes.{cached_in};
-ghost use Rattle.mapdb_rights.specs.RightsRuns.{ComesFirst, runs_behind};
+ghost use Rattle.mapdb_rights.specs.RightsRuns.{IsFirstRightsRun, runs_behind};
 
 use super::changes::{AllChanges, cached_at, unchanged_until};
 use mapdb_facts::RecordId;
@@ -64,7 +64,7 @@ fn run_end(changes: &AllChanges, id: RecordId, start: u64, rights: Rights) -> u6
 
 /// The first run from a page on.
 fn first_run(changes: &AllChanges, id: RecordId, page: u64) -> Option<RightsRun>
-    ensures first { ComesFirst (cached_in changes.now.own.entries id) page result }
+    ensures first { IsFirstRightsRun (cached_in changes.now.own.entries id) page result }
     ensures limit { IfSome result (λ run. run.first_page + run.page_count ≤ PAGE_LIMIT) }
 {
     let first_page = run_start(changes, id, page)?;

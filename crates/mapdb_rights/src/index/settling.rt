@@ -61,7 +61,6 @@ fn settle_run(
     ensures weight { OnOk result ((base : ℕ) → 0 < base → weight base stack.new.items
         ≤ weight base stack.old.items + listed_len listed.now * share base (stale.id.number + 1)) }
 {
-    facts.prove_held();
     let change = change_from(changes, facts, stale.id, stale.first);
     if change.rights == cached_at(changes, stale.id, stale.first) {
         return Ok(());

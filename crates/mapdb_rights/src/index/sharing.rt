@@ -100,7 +100,6 @@ pub(crate) fn all_sharing(
         ≡ filter (shares_part owner part.now) (records_of_facts facts.now)) }
     ensures formed { IfOk result (λ found. All IsFormedRecord found.items) }
 {
-    facts.prove_held();
     let names = names_meeting(alloc, listed, owner, part.first_page(), part.end())?;
     named_sharing(alloc, &names, facts, owner, part)
 }

@@ -60,7 +60,6 @@ pub(crate) fn show_until(
     ensures limit { result ≤ PAGE_LIMIT }
     ensures shown { ShowUntil (state_of_facts facts.now) space page result }
 {
-    facts.prove_held();
     let owner = Owner::Space(space);
     let mut end = root_until(changes, space, page);
     let mut passed = None;

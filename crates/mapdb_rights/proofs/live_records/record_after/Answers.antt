@@ -8,17 +8,17 @@ records-init c = record { further = λ id live above. above; within = λ id behi
 
 pub returns-then-is_live : goal.returns-then-is_live
 returns-then-is_live c =
-    live_here (state_of_facts c.args.facts.now) c.args.space c.args.page c.args.after c.records.from c.in-Some.mapping c.prove_held.ensures.named c.requires
+    live_here (state_of_facts c.args.facts.now) c.args.space c.args.page c.args.after c.records.from c.in-Some.mapping c.in-Some.ensures.held_named c.requires
     c.in-Some.ensures.found (no_root c.in-Some.mapping c.in-Some.ensures.formed) (sym c.is_live.ensures ∙ c.if-is_live.true) c.records.invariant.further c.records.invariant.within
 
 pub records-preserved : goal.records-preserved
 records-preserved c = record {
-  further = further_next (state_of_facts c.args.facts.now) c.args.space c.args.page c.args.after c.records.from c.in-Some.mapping c.prove_held.ensures.named c.requires
+  further = further_next (state_of_facts c.args.facts.now) c.args.space c.args.page c.args.after c.records.from c.in-Some.mapping c.in-Some.ensures.held_named c.requires
       c.in-Some.ensures.found (sym c.is_live.ensures ∙ c.if-is_live.false) c.records.invariant.further;
   within = λ id behind. c.records.invariant.within id (after_both c.records.from c.in-Some.mapping.id id c.in-Some.ensures.found.above behind);
 }
 
 pub returns : goal.returns
 returns c =
-    none_left (state_of_facts c.args.facts.now) c.args.space c.args.page c.args.after c.records.from c.prove_held.ensures.named c.requires
+    none_left (state_of_facts c.args.facts.now) c.args.space c.args.page c.args.after c.records.from c.in_default.ensures.held_named c.requires
     c.in_default.ensures.found c.records.invariant.further

@@ -20,7 +20,7 @@ records-preserved c =
       above = omega (arith, c.min-end.ensures, above, further);
       limit = omega (arith, c.min-end.ensures, limit);
       passed = passed_next (state_of_facts c.args.facts.now) c.args.space c.args.page c.records.after c.in-Some.mapping c.records.end c.record_until.result c.min-end.result
-          c.prove_held.ensures.named c.in-Some.ensures.found (omega (arith, c.min-end.ensures)) (omega (arith, c.min-end.ensures))
+          c.in-Some.ensures.held_named c.in-Some.ensures.found (omega (arith, c.min-end.ensures)) (omega (arith, c.min-end.ensures))
           c.record_until.ensures.steady c.records.invariant.passed;
     }
 
@@ -28,6 +28,6 @@ pub returns : goal.returns
 returns c = record {
   above = c.records.invariant.above;
   limit = c.records.invariant.limit;
-  shown = passed_all (state_of_facts c.args.facts.now) c.args.space c.args.page c.records.after c.records.end c.prove_held.ensures.named
+  shown = passed_all (state_of_facts c.args.facts.now) c.args.space c.args.page c.records.after c.records.end c.in_default.ensures.held_named
       c.in_default.ensures.found c.records.invariant.passed;
 }

@@ -21,9 +21,9 @@ settle-requires-clause-settled c =
     (left_from_nothing S c.push_children.new.stack.items
     (λ page below. c.in_ok-push_children.ensures.kept root page (rw c.in_ok-push.ensures.items (pending_last _ _ root page (to_covers root 0 page_limit page (omega arith) below))))
     (λ id r held parent page inside.
-    let named = c.prove_held.ensures.named id r held in
+    let named = c.in_ok-list_records.ensures.named id r held in
     let own : S.record_at r.id ≡ Some r = ap S.record_at named ∙ held in
-    let formed = c.prove_held.ensures.formed r own in
+    let formed = c.in_ok-list_records.ensures.formed r own in
     let listed = c.in_ok-list_records.ensures.places r own in
     let below = source_below r page listed.place formed inside in
     subst (λ (o : RecordId). IsPending c.push_children.new.stack.items o page) named

@@ -2,12 +2,12 @@ use Rattle.std.proofs.Common.{◌+◌, sym, subst, take}
 use Rattle.std.specs.Prelude.{Option}
 use Rattle.std.specs.BTreeMap.Range.{is_from_start}
 use Rattle.mapdb_rights.specs.declared.index.own_places.OwnPlace.{OwnPlace}
-use Rattle.mapdb_rights.specs.OwnPlaces.{IsLeast, place_cmp}
+use Rattle.mapdb_rights.specs.OwnPlaces.{IsFirstPlaceWhere, place_cmp}
 use Rattle.mapdb_rights.proofs.LeastPlaces.{least_step}
 use Rattle.mapdb_rights.proofs.index.few_places.least_inside.Goals as goal
 
 pub loop-place-preserved : goal.loop-place-preserved
 loop-place-preserved c =
-    subst (λ (r : Option OwnPlace). IsLeast (is_from_start place_cmp c.args.start.now) (take (c.loop-place.place-index + 1) c.args.places.now) r)
+    subst (λ (r : Option OwnPlace). IsFirstPlaceWhere (is_from_start place_cmp c.args.start.now) (take (c.loop-place.place-index + 1) c.args.places.now) r)
     (sym c.lesser_inside-found.ensures)
     (least_step (is_from_start place_cmp c.args.start.now) c.args.places.now c.loop-place.place-index _ c.loop-place.found c.loop-place-test.true c.loop-place.invariant)

@@ -6,6 +6,7 @@ use Rattle.mapdb_facts.specs.declared.names.RecordId.{RecordId}
 use Rattle.mapdb_facts.specs.declared.operations.Op.TheVariants.{Closed}
 use Rattle.mapdb_facts.specs.declared.operations.Record.{Record}
 use Rattle.mapdb_rights.specs.Changes.{cached_in}
+use Rattle.mapdb_rights.specs.Following.{AreListed}
 use Rattle.mapdb_rights.specs.Pending.{IsPending}
 use Rattle.mapdb_rights.proofs.Ended.{numbered_is_other, rights_in_place}
 use Rattle.mapdb_rights.proofs.Followed.{frames_by_op, first_alone, left_by_op, listed_by_end}
@@ -22,13 +23,14 @@ settle-requires-clause-settled c =
     left_by_op S c.requires.stood.before (Closed c.args.space) (cached_in c.args.changes.now.own.entries) c.push_space.new.stack.items
     c.requires.stood.is c.requires.stood.stood.rights
     (λ id page stirs.
+    let there : AreListed S c.args.listed.now = listed_by_end S c.requires.stood.before c.args.space c.args.listed.now c.requires.stood.is c.requires.stood.stood.listed_there in
     let r : Record = stirs.0 in
     let held : S.record_at id ≡ Some r = ap (λ (T : State). T.record_at id) c.requires.stood.is ∙ first_alone (c.requires.stood.before.record_at id) ∙ stirs.1 in
-    let named = c.prove_held.ensures.named id r held in
+    let named = there.named id r held in
     let own : S.record_at r.id ≡ Some r = ap S.record_at named ∙ held in
-    let other : is_root id ≡ false = subst (λ (o : RecordId). is_root o ≡ false) named (numbered_is_other r.id (c.prove_held.ensures.formed r own).has_number) in
+    let other : is_root id ≡ false = subst (λ (o : RecordId). is_root o ≡ false) named (numbered_is_other r.id (there.formed r own).has_number) in
     subst (λ (o : RecordId). IsPending c.push_space.new.stack.items o page) named
-    (c.in_ok-push_space.ensures r own ((listed_by_end S c.requires.stood.before c.args.space c.args.listed.now c.requires.stood.is c.requires.stood.stood.listed_there).places r own) stirs.2 page (rights_in_place c.requires.stood.before id r page other stirs.1 stirs.3)))
+    (c.in_ok-push_space.ensures r own (there.places r own) stirs.2 page (rights_in_place c.requires.stood.before id r page other stirs.1 stirs.3)))
 
 pub settle-requires-clause-frames : goal.settle-requires-clause-frames
 settle-requires-clause-frames c = frames_by_op (state_of_facts c.args.facts.now) c.requires.stood.before (Closed c.args.space) c.args.changes.now.own.entries c.requires.stood.is c.requires.stood.stood.frames

@@ -23,6 +23,7 @@ settle-requires-clause-listed c =
     listed_by_record c.args.listed.now c.list_held.new.listed c.in_ok-list_held.ensures.kept
     (state_of_facts c.args.facts.now) c.requires.stood.before c.args.mapping.now c.requires.stood.is
     c.in_ok-list_held.ensures.there c.requires.stood.stood.listed_there c.in_ok-list_held.ensures.aligned c.in_ok-list_held.ensures.held
+    c.in_ok-list_held.ensures.held_named c.in_ok-list_held.ensures.held_formed
 
 pub settle-requires-clause-settled : goal.settle-requires-clause-settled
 settle-requires-clause-settled c =
@@ -42,5 +43,6 @@ returns c = on_both c.settle.result (λ are frames. record {
   listed_there =
       listed_by_record c.args.listed.now c.list_held.new.listed c.in_ok-list_held.ensures.kept
       (state_of_facts c.args.facts.now) c.requires.stood.before c.args.mapping.now c.requires.stood.is
-      c.in_ok-list_held.ensures.there c.requires.stood.stood.listed_there c.in_ok-list_held.ensures.aligned c.in_ok-list_held.ensures.held;
+      c.in_ok-list_held.ensures.there c.requires.stood.stood.listed_there c.in_ok-list_held.ensures.aligned c.in_ok-list_held.ensures.held
+      c.in_ok-list_held.ensures.held_named c.in_ok-list_held.ensures.held_formed;
 }) c.settle.ensures.rights c.settle.ensures.frames

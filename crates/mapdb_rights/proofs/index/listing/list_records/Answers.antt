@@ -1,4 +1,5 @@
-use Rattle.std.proofs.Common.{subst, inl, inr}
+use Rattle.std.proofs.Common.{sym, subst, ◌∙◌, inl, inr}
+use Rattle.std.proofs.lemmas.Bool.{true≢false}
 use Rattle.mapdb_facts.specs.Facts.{state_of_facts}
 use Rattle.mapdb_facts.specs.declared.operations.Record.{Record}
 use Rattle.mapdb_rights.specs.Listing.{IsListed}
@@ -18,4 +19,16 @@ records-preserved c = record {
   ];
   held = of_held_with (state_of_facts c.args.facts.now) c.records.listed c.list_record.new.listed c.in-Some.mapping c.in-Some.ensures.found.held
       c.in_ok-list_record.ensures.no_more c.records.invariant.held;
+}
+
+pub returns : goal.returns
+returns c = record {
+  named = c.in_default.ensures.held_named;
+  formed = c.in_default.ensures.held_formed;
+  places = λ r held. elim (c.records.invariant.places r held) [
+    | inr listed ↦ listed
+    | inl after ↦ absurd (true≢false (sym after ∙ c.in_default.ensures.found r held))
+  ];
+  aligned = c.records.invariant.aligned;
+  held = c.records.invariant.held;
 }

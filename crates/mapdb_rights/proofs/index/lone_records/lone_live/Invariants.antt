@@ -4,7 +4,7 @@ use Rattle.mapdb_facts.specs.Facts.{state_of_facts}
 use Rattle.mapdb_facts.specs.Names.{root}
 use Rattle.mapdb_rights.specs.Listing.{left_above}
 use Rattle.mapdb_rights.specs.Live.{IsLive}
-use Rattle.mapdb_rights.specs.Lone.{IsFound, IsWithin}
+use Rattle.mapdb_rights.specs.Lone.{IsLoneFound, IsToldBy}
 use Rattle.mapdb_rights.specs.declared.index.places.Owner.TheVariants as owners
 use Rattle.mapdb_rights.proofs.LoneRecords.{ArePassed}
 use Rattle.mapdb_rights.proofs.index.lone_records.lone_live.Given as goal
@@ -13,8 +13,8 @@ use Rattle.mapdb_rights.proofs.index.lone_records.lone_live.Given as goal
 abbrev pub invariant-entries : goal.invariant-entries
 invariant-entries l = record {
   owned : IfSome l.passed (λ p. p.owner ≡ owners.Space l.fn.space);
-  found : IsFound (state_of_facts l.facts) l.changes.own.entries l.space l.page l.found;
-  top : IsLive (state_of_facts l.facts) l.space l.page root → IsWithin l.found root;
+  found : IsLoneFound (state_of_facts l.facts) l.changes.own.entries l.space l.page l.found;
+  top : IsLive (state_of_facts l.facts) l.space l.page root → IsToldBy l.found root;
   passed : ArePassed (state_of_facts l.facts) l.changes.own.entries l.space l.page l.listed l.end l.passed l.found;
 }
 

@@ -26,11 +26,11 @@ returns-clause-settled c =
     (λ pushed. settled_after S (cached_in c.args.changes.now.own.entries) (cached_in c.write.new.changes.own.entries) c.args.stale.id c.args.stale.first c.args.end c.change_from-change.result.rights
     c.change_from-change.ensures.rights c.requires.same c.in_ok-write.ensures.cached c.push_children.new.stack.items
     (λ other r held parent page inside from before.
-    let named = c.prove_held.ensures.named other r held in
+    let named = c.requires.listed.named other r held in
     let own : S.record_at r.id ≡ Some r = ap S.record_at named ∙ held in
     let listed = c.requires.listed.places r own in
     subst (λ (o : RecordId). IsPending c.push_children.new.stack.items o page) named
-    (pushed r own (c.prove_held.ensures.formed r own) listed parent page inside from before)))
+    (pushed r own (c.requires.listed.formed r own) listed parent page inside from before)))
     c.push_children.ensures.stale
 
 pub returns-clause-frames : goal.returns-clause-frames

@@ -36,5 +36,5 @@ entries-smaller c = fewer_above c.args.listed.now c.entries.passed c.in-Some.ent
 
 pub returns-clause-shown : goal.returns-clause-shown
 returns-clause-shown c =
-    passed_all c.args.listed.now c.args.space (cached_in c.args.changes.now.own.entries) c.args.page (state_of_facts c.args.facts.now) c.prove_held.ensures.named
+    passed_all c.args.listed.now c.args.space (cached_in c.args.changes.now.own.entries) c.args.page (state_of_facts c.args.facts.now) c.requires.stands.listed_there.named
     c.requires.stands.listed_there c.requires.stands.rights c.entries.end c.entries.passed c.entries.invariant.first c.in_default.ensures c.entries.invariant.kept

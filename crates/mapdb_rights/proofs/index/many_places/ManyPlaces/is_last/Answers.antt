@@ -1,7 +1,7 @@
 use Rattle.std.proofs.Common.{◌≡◌, ◌≤◌, ap, subst, ◌∙◌, arith}
 use Rattle.std.specs.Prelude.{Option, Some, not}
 use Rattle.mapdb_rights.specs.declared.index.own_places.OwnPlace.{OwnPlace}
-use Rattle.mapdb_rights.specs.OwnPlaces.{IsLeast, IsLeastPlace, is_beyond}
+use Rattle.mapdb_rights.specs.OwnPlaces.{IsFirstPlaceWhere, IsLeastPlace, is_beyond}
 use Rattle.mapdb_rights.proofs.Meetings.{last_of_order, no_order}
 use Rattle.mapdb_rights.proofs.index.many_places.ManyPlaces.is_last.Goals.{then-next-order+else-next-end, else-next-order}
 use Rattle.mapdb_rights.proofs.index.many_places.ManyPlaces.is_last.Goals as goal
@@ -9,7 +9,7 @@ use Rattle.mapdb_rights.proofs.index.many_places.ManyPlaces.is_last.Goals as goa
 pub returns-in-Some-2 : goal.returns-in-Some-2
 returns-in-Some-2 c none =
     let next : IsLeastPlace (is_beyond (Some c.args.spot.place)) c.args.self.now.places.keys c.in-Some.next =
-    subst (λ (o : Option OwnPlace). IsLeast (is_beyond (Some c.args.spot.place)) c.args.self.now.places.keys o) c.in-Some.is c.requires.behind in
+    subst (λ (o : Option OwnPlace). IsFirstPlaceWhere (is_beyond (Some c.args.spot.place)) c.args.self.now.places.keys o) c.in-Some.is c.requires.behind in
     let begins : c.in-Some.next.order ≡ c.args.spot.place.order → c.args.end ≤ c.in-Some.next.first =
     λ same. elim c.if-next-order.branch [
       | then-next-order+else-next-end w ↦ w.if-next-end.false

@@ -1,14 +1,14 @@
 use Rattle.std.proofs.Common.{◌≡◌, false, sym, subst, ◌∙◌}
 use Rattle.std.specs.Prelude.{Option, option_map}
 use Rattle.mapdb_rights.specs.declared.index.place_sets.Spot.{Spot}
-use Rattle.mapdb_rights.specs.OwnPlaces.{HasReached, IsReached, own_meets, spot_place}
+use Rattle.mapdb_rights.specs.OwnPlaces.{HasReached, IsReachedAbove, own_meets, spot_place}
 use Rattle.mapdb_rights.proofs.Meetings.{reached_on}
 use Rattle.mapdb_rights.proofs.index.many_places.ManyPlaces.next_meeting.Goals as goal
 
 pub orders-preserved : goal.orders-preserved
 orders-preserved c =
     let keys = c.args.self.now.places.keys in
-    let here : IsReached keys c.args.first c.args.end c.args.after c.in-Some.spot.place =
+    let here : IsReachedAbove keys c.args.first c.args.end c.args.after c.in-Some.spot.place =
     subst (λ (r : Option Spot). HasReached keys c.args.first c.args.end c.args.after (option_map spot_place r)) c.in-Some.is c.orders.invariant.reached in
     let apart : own_meets c.in-Some.spot.place c.args.first c.args.end ≡ false = sym c.meets.ensures ∙ c.if-meets.false in
     record {

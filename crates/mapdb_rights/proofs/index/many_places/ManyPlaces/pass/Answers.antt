@@ -3,7 +3,7 @@ use Rattle.std.specs.Prelude.{option_map}
 use Rattle.std.specs.BTreeMap.Range.{is_from_start}
 use Rattle.std.specs.declared.ops.Bound.TheVariants.{Included}
 use Rattle.mapdb_rights.specs.declared.index.own_places.OwnPlace.{OwnPlace}
-use Rattle.mapdb_rights.specs.OwnPlaces.{IsLeast, own_pages, place_cmp, spot_place}
+use Rattle.mapdb_rights.specs.OwnPlaces.{IsFirstPlaceWhere, own_pages, place_cmp, spot_place}
 use Rattle.mapdb_rights.proofs.Meetings.{ends_before, fewer_end, fewer_low, pass_end, pass_low}
 use Rattle.mapdb_rights.proofs.index.many_places.ManyPlaces.pass.Goals as goal
 
@@ -20,10 +20,10 @@ pub returns-clause-reached : goal.returns-clause-reached
 returns-clause-reached c =
     let before : c.args.place.first + own_pages c.args.place ≤ c.args.first = ends_before c.args.place c.args.first c.args.end c.requires.pages c.if-place-end.false c.requires.apart in
     pass_low c.args.self.now.places.keys c.args.first c.args.end c.args.place (option_map spot_place c.set_from.result) c.requires.aligned before
-    (subst (λ (p : OwnPlace). IsLeast (is_from_start place_cmp (Included p)) c.args.self.now.places.keys (option_map spot_place c.set_from.result)) c.start_of.ensures c.set_from.ensures.least)
+    (subst (λ (p : OwnPlace). IsFirstPlaceWhere (is_from_start place_cmp (Included p)) c.args.self.now.places.keys (option_map spot_place c.set_from.result)) c.start_of.ensures c.set_from.ensures.least)
 
 pub returns-clause-fewer : goal.returns-clause-fewer
 returns-clause-fewer c =
     let before : c.args.place.first + own_pages c.args.place ≤ c.args.first = ends_before c.args.place c.args.first c.args.end c.requires.pages c.if-place-end.false c.requires.apart in
     fewer_low c.args.self.now.places.keys c.args.first c.args.end c.args.place (option_map spot_place c.set_from.result) c.requires.aligned before
-    (subst (λ (p : OwnPlace). IsLeast (is_from_start place_cmp (Included p)) c.args.self.now.places.keys (option_map spot_place c.set_from.result)) c.start_of.ensures c.set_from.ensures.least)
+    (subst (λ (p : OwnPlace). IsFirstPlaceWhere (is_from_start place_cmp (Included p)) c.args.self.now.places.keys (option_map spot_place c.set_from.result)) c.start_of.ensures c.set_from.ensures.least)

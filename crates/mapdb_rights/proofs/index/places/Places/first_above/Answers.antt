@@ -7,7 +7,7 @@ use Rattle.std.proofs.lemmas.Bool.{false≢true}
 use Rattle.mapdb_rights.specs.declared.index.own_places.OwnPlace.{OwnPlace}
 use Rattle.mapdb_rights.specs.declared.index.places.Listed.{Listed}
 use Rattle.mapdb_rights.specs.Listing.{IsFirstInside}
-use Rattle.mapdb_rights.specs.OwnPlaces.{IsLeast, own_list, place_cmp}
+use Rattle.mapdb_rights.specs.OwnPlaces.{IsFirstPlaceWhere, own_list, place_cmp}
 use Rattle.mapdb_rights.proofs.OwnersPlaces.{first_above_own, places_absent, places_found}
 use Rattle.mapdb_rights.proofs.index.places.Places.first_above.Goals as goal
 
@@ -17,7 +17,7 @@ returns-in-Some c =
     let places = places_found c.args.self.now.own.entries c.args.after.owner own (sym (ap option_copied c.in-Some.is) ∙ c.get.ensures.value) in
     subst (λ (r : Option Listed). IsFirstInside c.args.self.now c.args.after.owner (Excluded c.args.after) r) (sym c.listed_for.ensures)
     (first_above_own c.args.self.now c.args.after.owner (own_list own) places c.args.after refl c.first_above.result
-    (subst (λ (p : OwnPlace). IsLeast (is_from_start place_cmp (Excluded p)) (own_list own) c.first_above.result) c.own_place.ensures c.first_above.ensures))
+    (subst (λ (p : OwnPlace). IsFirstPlaceWhere (is_from_start place_cmp (Excluded p)) (own_list own) c.first_above.result) c.own_place.ensures c.first_above.ensures))
 
 pub returns-in-None : goal.returns-in-None
 returns-in-None c =

@@ -7,7 +7,7 @@ use Rattle.std.proofs.lemmas.Bool.{false≢true}
 use Rattle.mapdb_rights.specs.declared.index.own_places.OwnPlace.{OwnPlace}
 use Rattle.mapdb_rights.specs.declared.index.places.Listed.{Listed}
 use Rattle.mapdb_rights.specs.Listing.{IsFirstInside}
-use Rattle.mapdb_rights.specs.OwnPlaces.{IsLeast, own_list, place_cmp}
+use Rattle.mapdb_rights.specs.OwnPlaces.{IsFirstPlaceWhere, own_list, place_cmp}
 use Rattle.mapdb_rights.proofs.OwnersPlaces.{first_from_own, places_absent, places_found}
 use Rattle.mapdb_rights.proofs.index.places.Places.first_from.Goals as goal
 
@@ -17,7 +17,7 @@ returns-in-Some c =
     let places = places_found c.args.self.now.own.entries c.args.from.owner own (sym (ap option_copied c.in-Some.is) ∙ c.get.ensures.value) in
     subst (λ (r : Option Listed). IsFirstInside c.args.self.now c.args.from.owner (Included c.args.from) r) (sym c.listed_for.ensures)
     (first_from_own c.args.self.now c.args.from.owner (own_list own) places c.args.from refl c.first_from.result
-    (subst (λ (p : OwnPlace). IsLeast (is_from_start place_cmp (Included p)) (own_list own) c.first_from.result) c.own_place.ensures c.first_from.ensures))
+    (subst (λ (p : OwnPlace). IsFirstPlaceWhere (is_from_start place_cmp (Included p)) (own_list own) c.first_from.result) c.own_place.ensures c.first_from.ensures))
 
 pub returns-in-None : goal.returns-in-None
 returns-in-None c =
