@@ -11,6 +11,7 @@ use Rattle.mapdb_replica.specs.declared.commands.Command.{Command}
 use Rattle.mapdb_replica.specs.declared.commands.Command.TheVariants.{End, Map, Unmap}
 use Rattle.mapdb_replica.specs.declared.faults.IssueFault.{IssueFault}
 use Rattle.mapdb_replica.specs.declared.faults.IssueFault.TheVariants.{Full, Memory, NumbersSpent, RootSpace, SpaceEnded}
+use Rattle.mapdb_replica.proofs.CallCases.{IssueCases, issue_cases}
 use Rattle.mapdb_c.specs.FaultStatuses.{issue_status}
 use Rattle.mapdb_c.specs.Issuing.{IssuesAs, applied_told, command_told, issued_with, refusal_told}
 use Rattle.mapdb_c.specs.declared.statuses.Status.TheVariants as status
@@ -32,16 +33,23 @@ pub all_done :
     (command : Command) (outcome : Result (List Op) IssueFault) (applied : Applied) (old new : Log)
     → Applies command outcome (Ok applied) old new
     → IssuesAs command outcome status.Done (applied_told applied) old new
-all_done command (Ok ops) applied old new is = inl (refl, answer_told command ops applied is.0, is.1)
-all_done command (Err refusal) applied old new is = absurd is
+all_done command (Ok ops) applied old new is = inl (refl, answer_told command ops applied is.0, is.1.1)
+all_done command (Err refusal) applied old new is = absurd (issue_cases (Err refusal) (Ok applied) old new is.1)
+
+fault_cases :
+    (command : Command) (outcome : Result (List Op) IssueFault) (fault : IssueFault) (old new : Log)
+    → IssueCases {A = Applied} outcome (Err fault) old new
+    → IssuesAs command outcome (issue_status fault) (refusal_told fault) old new
+fault_cases command (Ok ops) (SpaceEnded space) old new is = absurd is
+fault_cases command (Ok ops) RootSpace old new is = absurd is
+fault_cases command (Ok ops) NumbersSpent old new is = absurd is
+fault_cases command (Ok ops) Full old new is = absurd is
+fault_cases command (Ok ops) (Memory issued) old new is = inr (refl, refl, is.0, is.1)
+fault_cases command (Err refusal) fault old new is = (ap issue_status is.0, ap refusal_told is.0, is.1)
 
 pub not_done :
     (command : Command) (outcome : Result (List Op) IssueFault) (fault : IssueFault) (old new : Log)
     → Applies command outcome (Err fault) old new
     → IssuesAs command outcome (issue_status fault) (refusal_told fault) old new
-not_done command (Ok ops) (SpaceEnded space) old new is = absurd is
-not_done command (Ok ops) RootSpace old new is = absurd is
-not_done command (Ok ops) NumbersSpent old new is = absurd is
-not_done command (Ok ops) Full old new is = absurd is
-not_done command (Ok ops) (Memory issued) old new is = inr (refl, refl, is.0, is.1)
-not_done command (Err refusal) fault old new is = (ap issue_status is.0, ap refusal_told is.0, is.1)
+not_done command outcome fault old new is =
+    fault_cases command outcome fault old new (issue_cases outcome (Err fault) old new is.1)

@@ -3,7 +3,7 @@ use Rattle.std.specs.Prelude.{◌≡◌, ◌⊎◌, ℕ, ◌<◌, List, length, 
 use Rattle.mapdb_facts.specs.State.{state_of}
 use Rattle.mapdb_facts.specs.declared.operations.Op.{Op}
 use Rattle.mapdb_replica.specs.Replica.{Log, news}
-use Rattle.mapdb_replica.specs.Taking.{IsRefusedAs, take_outcome, with_taken}
+use Rattle.mapdb_replica.specs.Taking.{take_outcome, with_taken}
 use Rattle.mapdb_replica.specs.declared.faults.TakeFault.{TakeFault}
 use Rattle.mapdb_replica.specs.declared.faults.TakeFault.TheVariants.{Bad, Clash, Full, Memory}
 use Rattle.mapdb_c.specs.FaultStatuses.{op_status}

@@ -1,23 +1,22 @@
 -- The copy of a run in which one processor alone issues commands is that of the commands.
-use Rattle.std.proofs.Common.{◌≡◌, ℕ, zero, suc, ◌+◌, Bool, true, false, Err, Ok, Result, Some, sym, subst, ap, ◌∙◌, List, [], ◌∷◌, map, take, arith}
+use Rattle.std.proofs.Common.{◌≡◌, ℕ, zero, suc, ◌+◌, Bool, true, false, Err, Ok, Result, Some, sym, subst, ap, ◌∙◌, List, [], ◌∷◌, map, arith}
 use Rattle.std.specs.Prelude.{◌<◌, ◌==◌, ◌≢◌, Option, None, slice_get, if◌then◌else◌}
 use Rattle.std.specs.List.{range_with_len}
 use Rattle.mapdb_facts.specs.declared.operations.Op.{Op}
-use Rattle.mapdb_facts.specs.State.{state_of}
 use Rattle.mapdb_replica.specs.Commands.{command_outcome}
 use Rattle.mapdb_replica.specs.Giving.{given}
-use Rattle.mapdb_replica.specs.Replica.{Log, empty, news, with_issued}
-use Rattle.mapdb_replica.specs.Taking.{take_outcome, with_taken}
+use Rattle.mapdb_replica.specs.Memory.{EndsAfter, Enough, Memory}
+use Rattle.mapdb_replica.specs.Replica.{Log, empty, with_issued}
+use Rattle.mapdb_replica.specs.Taking.{take_left, take_outcome}
 use Rattle.mapdb_replica.specs.declared.commands.Command.{Command}
 use Rattle.mapdb_replica.specs.declared.faults.GiveFault.{GiveFault}
 use Rattle.mapdb_replica.specs.declared.faults.IssueFault.{IssueFault}
 use Rattle.mapdb_replica.specs.declared.faults.TakeFault.{TakeFault}
-use Rattle.mapdb_replica.specs.declared.faults.TakeFault.TheVariants as fault
 use Rattle.mapdb_tree.specs.Tree.{Tree, first_tree}
 use Rattle.mapdb_sequential.specs.Plain.{GoesOnWith, IsPlain}
 use Rattle.mapdb_sequential.proofs.PlainLists.{sequential_tree}
 use Rattle.mapdb_cluster.specs.Alone.{IsAlone, RunsAloneAreTrees, commands_of}
-use Rattle.mapdb_cluster.specs.Net.{Done, Net, at_copy, at_processor, delivered, event_done, issue_done, joined, new_net, send_done, take_done, take_refused, taken_at, with_copy}
+use Rattle.mapdb_cluster.specs.Net.{Done, Net, at_copy, at_processor, delivered, event_done, issue_done, joined, new_net, send_done, take_done, taken_at, with_copy}
 use Rattle.mapdb_cluster.specs.Run.{Happens, Loads, Move, after, move_done}
 use Rattle.mapdb_cluster.specs.declared.events.Event.TheVariants.{Deliver, Issue, Join, Send}
 use Rattle.mapdb_cluster.specs.declared.events.Reply.TheVariants.{Taken}
@@ -29,43 +28,32 @@ IsThere at net log = slice_get net.copies at ≡ Some log
 
 -- the net after a command at a copy that is there
 issued_net : (net : Net) (at : ℕ) (log : Log) (command : Command) → IsThere at net log
-    → (issue_done net at log command None (command_outcome log command)).net ≡ (event_done net (Issue at command) None).net
+    → (issue_done net at log command Enough (command_outcome log command)).net ≡ (event_done net (Issue at command) Enough).net
 issued_net net at log command there =
-    sym (ap (λ (o : Option Log). (at_copy net o (λ copy. issue_done net at copy command None (command_outcome copy command))).net) there)
+    sym (ap (λ (o : Option Log). (at_copy net o (λ copy. issue_done net at copy command Enough (command_outcome copy command))).net) there)
 
 -- one command, whatever it comes to, and then the rest
 goes_on : (net : Net) (at : ℕ) (log : Log) (T : Tree) (command : Command) (Rest : Log → Tree → Type 0) (Last : Net → Type 0)
     → ((next : Net) (next_log : Log) (next_tree : Tree) → IsThere at next next_log → Rest next_log next_tree → Last next)
     → IsThere at net log → (outcome : Result (List Op) IssueFault) → GoesOnWith log T command Rest outcome
-    → Last (issue_done net at log command None outcome).net
+    → Last (issue_done net at log command Enough outcome).net
 goes_on net at log T command Rest Last rest there (Err refusal) is = rest net log T there is
 goes_on net at log T command Rest Last rest there (Ok ops) (free, next, step, is) =
     rest (with_copy net at (with_issued log ops)) (with_issued log ops) next (set_here net.copies at log (with_issued log ops) there) is
 
 -- What others take, and what is sent, leaves a copy as it is.
 module _ (at : ℕ) (log : Log) where
-  refused_stays : (net : Net) (memory : Option ℕ) (why : TakeFault) → IsThere at net log → IsThere at (take_refused net memory why).net log
-  refused_stays net memory (fault.Bad place why) there = there
-  refused_stays net None (fault.Clash id) there = there
-  refused_stays net None fault.Full there = there
-  refused_stays net None (fault.Memory n) there = there
-  refused_stays net (Some m) (fault.Clash id) there = there
-  refused_stays net (Some m) fault.Full there = there
-  refused_stays net (Some m) (fault.Memory n) there = there
-
-  taken_stays : (net : Net) (to : ℕ) (copy : Log) (batch : List Op) (memory : Option ℕ) (outcome : Result (List Op) TakeFault) → to ≢ at
+  taken_stays : (net : Net) (to : ℕ) (copy : Log) (batch : List Op) (memory : Memory) (outcome : Result (List Op) TakeFault) → to ≢ at
       → IsThere at net log → IsThere at (take_done net to copy batch memory outcome).net log
-  taken_stays net to copy batch memory (Err why) other there = refused_stays net memory why there
-  taken_stays net to copy batch None (Ok ops) other there = set_apart net.copies to at (with_taken copy ops) other ∙ there
-  taken_stays net to copy batch (Some n) (Ok ops) other there =
-      set_apart net.copies to at (with_taken copy (news (state_of copy.ops) (take n batch))) other ∙ there
+  taken_stays net to copy batch memory (Err why) other there = there
+  taken_stays net to copy batch memory (Ok ops) other there = set_apart net.copies to at (take_left memory batch (Ok ops) copy) other ∙ there
 
-  delivered_stays : (net : Net) (memory : Option ℕ) (to : ℕ) (batch : Option (List Op)) (copy : Log) → to ≢ at
+  delivered_stays : (net : Net) (memory : Memory) (to : ℕ) (batch : Option (List Op)) (copy : Log) → to ≢ at
       → IsThere at net log → IsThere at (delivered net memory to batch copy).net log
   delivered_stays net memory to None copy other there = there
   delivered_stays net memory to (Some batch) copy other there = taken_stays net to copy batch memory (take_outcome copy.ops batch) other there
 
-  joined_stays : (net : Net) (memory : Option ℕ) (into from : ℕ) (copy from_copy : Log) → into ≢ at
+  joined_stays : (net : Net) (memory : Memory) (into from : ℕ) (copy from_copy : Log) → into ≢ at
       → IsThere at net log → IsThere at (joined net memory into from copy from_copy).net log
   joined_stays net memory into from copy from_copy other there = by_self (into == from)
     where
@@ -73,31 +61,31 @@ module _ (at : ℕ) (log : Log) where
       by_self true = there
       by_self false = taken_stays net into copy from_copy.ops memory (take_outcome copy.ops from_copy.ops) other there
 
-  sent_stays : (net : Net) (memory : Option ℕ) (outcome : Result (List Op) GiveFault) → IsThere at net log → IsThere at (send_done net memory outcome).net log
+  sent_stays : (net : Net) (memory : Memory) (outcome : Result (List Op) GiveFault) → IsThere at net log → IsThere at (send_done net memory outcome).net log
   sent_stays net memory (Err why) there = there
-  sent_stays net None (Ok ops) there = there
-  sent_stays net (Some n) (Ok ops) there = there
+  sent_stays net Enough (Ok ops) there = there
+  sent_stays net (EndsAfter count) (Ok ops) there = there
 
   copy_stays : (net : Net) (found : Option Log) (done : Log → Done) → ((copy : Log) → IsThere at (done copy).net log) → IsThere at net log
       → IsThere at (at_copy net found done).net log
   copy_stays net None done each there = there
   copy_stays net (Some copy) done each there = each copy
 
-  load_stays : (net : Net) (memory : Option ℕ) (to : ℕ) (batch : List Op) → to ≢ at → IsThere at net log
+  load_stays : (net : Net) (memory : Memory) (to : ℕ) (batch : List Op) → to ≢ at → IsThere at net log
       → IsThere at (at_processor net to (λ copy. taken_at net memory to batch copy)).net log
   load_stays net memory to batch other there =
       copy_stays net (slice_get net.copies to) (λ copy. taken_at net memory to batch copy) (λ copy. taken_stays net to copy batch memory (take_outcome copy.ops batch) other there) there
 
-  send_stays : (net : Net) (memory : Option ℕ) (from first end : ℕ) → IsThere at net log → IsThere at (event_done net (Send from first end) memory).net log
+  send_stays : (net : Net) (memory : Memory) (from first end : ℕ) → IsThere at net log → IsThere at (event_done net (Send from first end) memory).net log
   send_stays net memory from first end there =
       copy_stays net (slice_get net.copies from) (λ copy. send_done net memory (given copy.ops first end)) (λ copy. sent_stays net memory (given copy.ops first end) there) there
 
-  deliver_stays : (net : Net) (memory : Option ℕ) (message to : ℕ) → to ≢ at → IsThere at net log → IsThere at (event_done net (Deliver message to) memory).net log
+  deliver_stays : (net : Net) (memory : Memory) (message to : ℕ) → to ≢ at → IsThere at net log → IsThere at (event_done net (Deliver message to) memory).net log
   deliver_stays net memory message to other there =
       copy_stays net (slice_get net.copies to) (λ copy. delivered net memory to (slice_get net.messages message) copy)
       (λ copy. delivered_stays net memory to (slice_get net.messages message) copy other there) there
 
-  join_stays : (net : Net) (memory : Option ℕ) (into from : ℕ) → into ≢ at → IsThere at net log → IsThere at (event_done net (Join into from) memory).net log
+  join_stays : (net : Net) (memory : Memory) (into from : ℕ) → into ≢ at → IsThere at net log → IsThere at (event_done net (Join into from) memory).net log
   join_stays net memory into from other there =
       copy_stays net (slice_get net.copies into) (λ copy. at_processor net from (λ from_copy. joined net memory into from copy from_copy))
       (λ copy. copy_stays net (slice_get net.copies from) (λ from_copy. joined net memory into from copy from_copy) (λ from_copy. joined_stays net memory into from copy from_copy other there) there)
@@ -108,8 +96,8 @@ alone : (at : ℕ) (moves : List Move) (net : Net) (log : Log) (T : Tree) (last 
     → IsThere at net log → IsAlone at moves → IsPlain log T (commands_of moves) last T' → IsThere at (after net moves) last
 alone at [] net log T last T' there is_alone (same, same_tree) = subst (IsThere at net) (sym same) there
 alone at (Happens (Issue to command) memory ∷ moves) net log T last T' there ((here, all), rest) is =
-    subst (λ (m : Option ℕ). IsThere at (after (event_done net (Issue to command) m).net moves) last) (sym all)
-    (subst (λ (i : ℕ). IsThere at (after (event_done net (Issue i command) None).net moves) last) (sym here)
+    subst (λ (m : Memory). IsThere at (after (event_done net (Issue to command) m).net moves) last) (sym all)
+    (subst (λ (i : ℕ). IsThere at (after (event_done net (Issue i command) Enough).net moves) last) (sym here)
     (subst (λ (n : Net). IsThere at (after n moves) last) (issued_net net at log command there)
     (goes_on net at log T command (λ next_log next. IsPlain next_log next (commands_of moves) last T') (λ n. IsThere at (after n moves) last)
     (λ next next_log next_tree now plain. alone at moves next next_log next_tree last T' now rest plain)

@@ -11,10 +11,16 @@ use Rattle.mapdb_facts.specs.WellFormed.{all_formed, is_formed}
 use Rattle.mapdb_facts.specs.declared.operations.Op.{Op}
 use Rattle.mapdb_facts.specs.declared.operations.Op.TheVariants.{Born, Closed, Cut}
 use Rattle.mapdb_facts.specs.declared.operations.Record.{Record}
+use Rattle.mapdb_replica.specs.Memory.{EndsAfter, Enough, Memory, lasting}
 use Rattle.mapdb_replica.specs.Replica.{news}
 
 pub among_take : (xs : List Op) (n : ℕ) (op : Op) → IsAmong op (take n xs) → IsAmong op xs
 among_take xs n op among = subst (λ (ys : List Op). IsAmong op ys) (take-append-drop n xs) (among_left (take n xs) (drop n xs) op among)
+
+-- what memory lasts for
+pub among_lasting : (memory : Memory) (xs : List Op) (op : Op) → IsAmong op (lasting memory xs) → IsAmong op xs
+among_lasting Enough xs op among = among
+among_lasting (EndsAfter count) xs op among = among_take xs count op among
 
 pub among_drop : (xs : List Op) (n : ℕ) (op : Op) → IsAmong op (drop n xs) → IsAmong op xs
 among_drop xs n op among = subst (λ (ys : List Op). IsAmong op ys) (take-append-drop n xs) (among_right (take n xs) (drop n xs) op among)

@@ -1,5 +1,5 @@
 -- Runs of events alone are honest: from nothing on, each event keeps what clusters keep.
-use Rattle.std.proofs.Common.{◌≡◌, ◌∙◌, ℕ, zero, suc, ◌+◌, ◌<◌, ◌≤◌, true, Err, Ok, Result, Some, refl, sym, subst, ap, inl, inr, List, [], ◌∷◌, ◌++◌, length, map, take, arith}
+use Rattle.std.proofs.Common.{◌≡◌, ◌∙◌, ℕ, zero, suc, ◌+◌, ◌<◌, ◌≤◌, true, Err, Ok, Result, Some, refl, sym, subst, ap, inl, inr, List, [], ◌∷◌, ◌++◌, length, map, arith}
 use Rattle.std.specs.Prelude.{◌⊎◌, Option, None, slice_get}
 use Rattle.std.specs.List.{range_with_len}
 use Rattle.mapdb_fpage.specs.Place.{IsPlace}
@@ -11,6 +11,7 @@ use Rattle.mapdb_facts.specs.declared.operations.Op.TheVariants.{Born}
 use Rattle.mapdb_facts.specs.declared.operations.Record.{Record}
 use Rattle.mapdb_replica.specs.Commands.{IsCommand, command_outcome}
 use Rattle.mapdb_replica.specs.Forms.{HavePlaces}
+use Rattle.mapdb_replica.specs.Memory.{Memory, lasting}
 use Rattle.mapdb_replica.specs.Replica.{Log, empty, with_issued}
 use Rattle.mapdb_replica.specs.declared.commands.Command.{Command}
 use Rattle.mapdb_replica.specs.declared.faults.IssueFault.{IssueFault}
@@ -22,7 +23,7 @@ use Rattle.mapdb_cluster.specs.Run.{Happens, Loads, Move, after, replies}
 use Rattle.mapdb_cluster.specs.declared.events.Event.{Event}
 use Rattle.mapdb_cluster.specs.declared.events.Event.TheVariants.{Deliver, Issue, Join, Send}
 use Rattle.mapdb_facts.proofs.Among.{among_append}
-use Rattle.mapdb_cluster.proofs.Among.{among_atom, among_take, atom_among, formed_among, formed_each}
+use Rattle.mapdb_cluster.proofs.Among.{among_atom, among_lasting, atom_among, formed_among, formed_each}
 use Rattle.mapdb_cluster.proofs.Changing.{each_changed}
 use Rattle.mapdb_cluster.proofs.HonestSteps.{AllFormed, Does, EachHeld, deliver_event, issue_event, join_event, send_event}
 use Rattle.mapdb_cluster.proofs.Issuers.{kept_from}
@@ -72,15 +73,13 @@ module _ (net : Net) (kept : IsKeptNet net) (placed : EachHeld HasPlace net) whe
         by_part op (inl before) = placed at copy there op before
         by_part op (inr later) = place_at ops good.1 op (within op later)
 
-  formed_issue : (at : ℕ) (copy : Log) (command : Command) (memory : Option ℕ) (o : Result (List Op) IssueFault) → IsCommand command → slice_get net.copies at ≡ Some copy → command_outcome copy command ≡ o → AllFormed (issue_done net at copy command memory o).net
+  formed_issue : (at : ℕ) (copy : Log) (command : Command) (memory : Memory) (o : Result (List Op) IssueFault) → IsCommand command → slice_get net.copies at ≡ Some copy → command_outcome copy command ≡ o → AllFormed (issue_done net at copy command memory o).net
   formed_issue at copy command memory (Err fault) is there outcome = formed_here
-  formed_issue at copy command None (Ok ops) is there outcome = formed_more at copy ops ops there (issued_good at copy command ops is there outcome) (λ op among. among)
-  formed_issue at copy command (Some n) (Ok ops) is there outcome = formed_more at copy ops (take n ops) there (issued_good at copy command ops is there outcome) (among_take ops n)
+  formed_issue at copy command memory (Ok ops) is there outcome = formed_more at copy ops (lasting memory ops) there (issued_good at copy command ops is there outcome) (among_lasting memory ops)
 
-  placed_issue : (at : ℕ) (copy : Log) (command : Command) (memory : Option ℕ) (o : Result (List Op) IssueFault) → IsCommand command → slice_get net.copies at ≡ Some copy → command_outcome copy command ≡ o → EachHeld HasPlace (issue_done net at copy command memory o).net
+  placed_issue : (at : ℕ) (copy : Log) (command : Command) (memory : Memory) (o : Result (List Op) IssueFault) → IsCommand command → slice_get net.copies at ≡ Some copy → command_outcome copy command ≡ o → EachHeld HasPlace (issue_done net at copy command memory o).net
   placed_issue at copy command memory (Err fault) is there outcome = placed
-  placed_issue at copy command None (Ok ops) is there outcome = placed_more at copy ops ops there (issued_good at copy command ops is there outcome) (λ op among. among)
-  placed_issue at copy command (Some n) (Ok ops) is there outcome = placed_more at copy ops (take n ops) there (issued_good at copy command ops is there outcome) (among_take ops n)
+  placed_issue at copy command memory (Ok ops) is there outcome = placed_more at copy ops (lasting memory ops) there (issued_good at copy command ops is there outcome) (among_lasting memory ops)
 
   -- An event whose places are places.
 
@@ -91,7 +90,7 @@ module _ (net : Net) (kept : IsKeptNet net) (placed : EachHeld HasPlace net) whe
       by_copy None is = same
       by_copy (Some copy) is = each copy is
 
-  pub honest_step : (event : Event) (memory : Option ℕ) → IsEvent event → Does HasPlace (event_done net event memory)
+  pub honest_step : (event : Event) (memory : Memory) → IsEvent event → Does HasPlace (event_done net event memory)
   honest_step (Issue at command) memory is =
       issue_event HasPlace net kept placed at command memory
       (at_issue AllFormed formed_here at (λ copy. issue_done net at copy command memory (command_outcome copy command)) (λ copy there. formed_issue at copy command memory (command_outcome copy command) is there refl))

@@ -12,6 +12,7 @@ use Rattle.mapdb_facts.specs.declared.operations.Op.TheVariants.{Born, Closed, C
 use Rattle.mapdb_facts.specs.declared.operations.Record.{Record}
 use Rattle.mapdb_replica.specs.Commands.{command_outcome}
 use Rattle.mapdb_replica.specs.Giving.{given}
+use Rattle.mapdb_replica.specs.Memory.{EndsAfter, Enough, Memory, lasting}
 use Rattle.mapdb_replica.specs.Replica.{Log, most_operations, news, with_issued}
 use Rattle.mapdb_replica.specs.Taking.{first_bad, least_clash, take_outcome, taken_unless, too_many, with_taken}
 use Rattle.mapdb_replica.specs.declared.commands.Command.{Command}
@@ -27,8 +28,8 @@ use Rattle.mapdb_replica.proofs.SoundIssues.{issues_are_sound}
 use Rattle.mapdb_replica.proofs.SoundTakes.{no_clash_is_sound, taken_parts}
 use Rattle.mapdb_cluster.specs.Honest.{IsIssued, IsTrusted}
 use Rattle.mapdb_cluster.specs.Kept.{IsKeptNet}
-use Rattle.mapdb_cluster.specs.Net.{Done, Net, at_copy, at_processor, delivered, event_done, issue_done, issue_reply, joined, refused, send_done, take_done, take_refused, taken_at, with_copy, with_message}
-use Rattle.mapdb_cluster.specs.Steps.{Steps, wanted}
+use Rattle.mapdb_cluster.specs.Net.{Done, Net, at_copy, at_processor, delivered, event_done, issue_done, issued_reply, joined, refused, send_done, take_done, take_refused, taken_at, with_copy, with_message}
+use Rattle.mapdb_cluster.specs.Steps.{Steps, memory_told}
 use Rattle.mapdb_cluster.specs.declared.events.Event.{Event}
 use Rattle.mapdb_cluster.specs.declared.events.Event.TheVariants.{Deliver, Issue, Join, Send}
 use Rattle.mapdb_cluster.specs.declared.events.Refusal.{Refusal}
@@ -36,11 +37,11 @@ use Rattle.mapdb_cluster.specs.declared.events.Refusal.TheVariants as refusal
 use Rattle.mapdb_cluster.specs.declared.events.Reply.{Reply}
 use Rattle.mapdb_cluster.specs.declared.events.Reply.TheVariants.{Refused, Taken}
 use Rattle.mapdb_facts.proofs.Among.{among_append, among_left, among_right}
-use Rattle.mapdb_cluster.proofs.Among.{among_atom, among_drop, among_news, among_take, put_at}
+use Rattle.mapdb_cluster.proofs.Among.{among_atom, among_drop, among_lasting, among_news, among_take, put_at}
 use Rattle.mapdb_cluster.proofs.Changing.{changed_kept, each_changed}
 use Rattle.mapdb_cluster.proofs.Issuers.{AllIssued, issued_formed, issued_held, issued_sound, kept_from}
 use Rattle.mapdb_cluster.proofs.Slots.{set_here}
-use Rattle.mapdb_cluster.proofs.Stepping.{part_sound}
+use Rattle.mapdb_cluster.proofs.Stepping.{lasting_sound}
 
 -- this is so of each operation that a copy holds
 abbrev pub EachHeld : (Op → Type 0) → Net → Type 0
@@ -55,10 +56,11 @@ pub record Does (P : Op → Type 0) (done : Done) : Type 0 where
 abbrev pub AllFormed : Net → Type 0
 AllFormed net = (at : ℕ) (copy : Log) → slice_get net.copies at ≡ Some copy → all_formed copy.ops ≡ true
 
-issue_trusted : (command : Command) (ops : List Op) → IsTrusted (issue_reply command ops)
-issue_trusted (Map sender item receiver window) ops = tt
-issue_trusted (Unmap space page rights flush) ops = tt
-issue_trusted (End space) ops = tt
+issue_trusted : (memory : Memory) (command : Command) (ops : List Op) → IsTrusted (issued_reply memory command ops)
+issue_trusted Enough (Map sender item receiver window) ops = tt
+issue_trusted Enough (Unmap space page rights flush) ops = tt
+issue_trusted Enough (End space) ops = tt
+issue_trusted (EndsAfter count) command ops = tt
 
 err_is : (f g : TakeFault) → (let r : Result (List Op) TakeFault = Err f in r) ≡ Err g → g ≡ f
 err_is f g e = cc
@@ -128,20 +130,14 @@ module _ (P : Op → Type 0) (net : Net) (kept : IsKeptNet net) (each : EachHeld
       by_part op (inl before) = inl (kept.honest.held at copy op there before)
       by_part op (inr later) = inr (among_right copy.own part op later)
 
-  issue_does : (at : ℕ) (copy : Log) (command : Command) (memory : Option ℕ) (o : Result (List Op) IssueFault) → slice_get net.copies at ≡ Some copy → command_outcome copy command ≡ o
+  issue_does : (at : ℕ) (copy : Log) (command : Command) (memory : Memory) (o : Result (List Op) IssueFault) → slice_get net.copies at ≡ Some copy → command_outcome copy command ≡ o
       → AllFormed (issue_done net at copy command memory o).net → EachHeld P (issue_done net at copy command memory o).net → Does P (issue_done net at copy command memory o)
   issue_does at copy command memory (Err fault) there is formed so = refused_does (refusal.Issue fault) tt
-  issue_does at copy command None (Ok ops) there is formed so = record {
+  issue_does at copy command memory (Ok ops) there is formed so = record {
     each = so;
-    kept = issued_kept at copy command ops ops there is (λ op among. among) (issues_are_sound copy command ops (kept.copies at copy there).sound is)
-        (formed at (with_issued copy ops) (set_here net.copies at copy (with_issued copy ops) there));
-    trusted = issue_trusted command ops;
-  }
-  issue_does at copy command (Some n) (Ok ops) there is formed so = record {
-    each = so;
-    kept = issued_kept at copy command ops (take n ops) there is (λ op among. among_take ops n op among) (part_sound copy.ops ops n (issues_are_sound copy command ops (kept.copies at copy there).sound is))
-        (formed at (with_issued copy (take n ops)) (set_here net.copies at copy (with_issued copy (take n ops)) there));
-    trusted = tt;
+    kept = issued_kept at copy command ops (lasting memory ops) there is (λ op among. among_lasting memory ops op among) (lasting_sound copy.ops memory ops (issues_are_sound copy command ops (kept.copies at copy there).sound is))
+        (formed at (with_issued copy (lasting memory ops)) (set_here net.copies at copy (with_issued copy (lasting memory ops)) there));
+    trusted = issue_trusted memory command ops;
   }
 
   -- Taking what was issued.
@@ -175,25 +171,25 @@ module _ (P : Op → Type 0) (net : Net) (kept : IsKeptNet net) (each : EachHeld
       each_changed net at copy (with_taken copy part) there (λ i c. (op : Op) → IsAmong op c.ops → P op)
       (λ op among. issued_each op (both_issued at copy part there all op among)) each
 
-  full_does : (memory : Option ℕ) → Does P (take_refused net memory take_fault.Full)
-  full_does None = refused_does (refusal.Take take_fault.Full) tt
-  full_does (Some n) = refused_does (refusal.Take (take_fault.Memory 0)) tt
+  full_does : (memory : Memory) → Does P (take_refused net memory take_fault.Full)
+  full_does Enough = refused_does (refusal.Take take_fault.Full) tt
+  full_does (EndsAfter count) = refused_does (refusal.Take (take_fault.Memory 0)) tt
 
-  take_does : (at : ℕ) (copy : Log) (batch : List Op) (memory : Option ℕ) (o : Result (List Op) TakeFault) → slice_get net.copies at ≡ Some copy → AllIssued net batch → take_outcome copy.ops batch ≡ o → Does P (take_done net at copy batch memory o)
+  take_does : (at : ℕ) (copy : Log) (batch : List Op) (memory : Memory) (o : Result (List Op) TakeFault) → slice_get net.copies at ≡ Some copy → AllIssued net batch → take_outcome copy.ops batch ≡ o → Does P (take_done net at copy batch memory o)
   take_does at copy batch memory (Err fault) there all is =
       let good : first_bad 0 batch ≡ None = formed_good 0 batch (issued_formed net kept.copies batch all) in
       let apart : least_clash copy.ops batch ≡ None = (no_clash_is_sound copy.ops batch (kept.copies at copy there).sound).1 (issued_sound net kept.copies (copy.ops ++ batch) (both_issued at copy batch there all)) in
       let full : fault ≡ take_fault.Full = full_only (first_bad 0 batch) (least_clash copy.ops batch) (nat_lt most_operations (length copy.ops + count_by (is_new (state_of copy.ops)) batch)) (news (state_of copy.ops) batch) fault good apart is in
       subst (λ (f : TakeFault). Does P (take_refused net memory f)) (sym full) (full_does memory)
-  take_does at copy batch None (Ok ops) there all is =
+  take_does at copy batch Enough (Ok ops) there all is =
       let fresh : news (state_of copy.ops) batch ≡ ops = (taken_parts (first_bad 0 batch) (least_clash copy.ops batch) (too_many copy.ops batch) (news (state_of copy.ops) batch) ops is).3 in
       let issued : AllIssued net ops = λ op among. all op (among_news (state_of copy.ops) batch op (subst (λ (xs : List Op). IsAmong op xs) (sym fresh) among)) in
       record { kept = taken_kept at copy ops there issued; each = taken_each at copy ops there issued; trusted = tt }
-  take_does at copy batch (Some n) (Ok ops) there all is =
+  take_does at copy batch (EndsAfter n) (Ok ops) there all is =
       let issued : AllIssued net (news (state_of copy.ops) (take n batch)) = λ op among. all op (among_take batch n op (among_news (state_of copy.ops) (take n batch) op among)) in
       record { kept = taken_kept at copy (news (state_of copy.ops) (take n batch)) there issued; each = taken_each at copy (news (state_of copy.ops) (take n batch)) there issued; trusted = tt }
 
-  taken_does : (memory : Option ℕ) (at : ℕ) (batch : List Op) (copy : Log) → slice_get net.copies at ≡ Some copy → AllIssued net batch → Does P (taken_at net memory at batch copy)
+  taken_does : (memory : Memory) (at : ℕ) (batch : List Op) (copy : Log) → slice_get net.copies at ≡ Some copy → AllIssued net batch → Does P (taken_at net memory at batch copy)
   taken_does memory at batch copy there all = take_does at copy batch memory (take_outcome copy.ops batch) there all refl
 
   -- Sending what is held.
@@ -213,14 +209,14 @@ module _ (P : Op → Type 0) (net : Net) (kept : IsKeptNet net) (each : EachHeld
       by_place message batch op among (inl before) = kept.honest.sent message batch op before among
       by_place message batch op among (inr last) = all op (subst (λ (xs : List Op). IsAmong op xs) last among)
 
-  send_does : (memory : Option ℕ) (copy : Log) (at first end : ℕ) (o : Result (List Op) GiveFault) → slice_get net.copies at ≡ Some copy → given copy.ops first end ≡ o → Does P (send_done net memory o)
+  send_does : (memory : Memory) (copy : Log) (at first end : ℕ) (o : Result (List Op) GiveFault) → slice_get net.copies at ≡ Some copy → given copy.ops first end ≡ o → Does P (send_done net memory o)
   send_does memory copy at first end (Err fault) there is = refused_does refusal.Mark tt
-  send_does None copy at first end (Ok ops) there is = record {
+  send_does Enough copy at first end (Ok ops) there is = record {
     each = each;
     kept = sent_kept ops (λ op among. kept.honest.held at copy op there (given_among copy.ops ops first end is op among));
     trusted = tt;
   }
-  send_does (Some n) copy at first end (Ok ops) there is = refused_does refusal.Memory tt
+  send_does (EndsAfter count) copy at first end (Ok ops) there is = refused_does refusal.Memory tt
 
   -- At a processor.
 
@@ -231,7 +227,7 @@ module _ (P : Op → Type 0) (net : Net) (kept : IsKeptNet net) (each : EachHeld
       by_copy None is = refused_does refusal.NoProcessor tt
       by_copy (Some copy) is = each copy is
 
-  pub issue_event : (at : ℕ) (command : Command) (memory : Option ℕ) → AllFormed (event_done net (Issue at command) memory).net → EachHeld P (event_done net (Issue at command) memory).net → Does P (event_done net (Issue at command) memory)
+  pub issue_event : (at : ℕ) (command : Command) (memory : Memory) → AllFormed (event_done net (Issue at command) memory).net → EachHeld P (event_done net (Issue at command) memory).net → Does P (event_done net (Issue at command) memory)
   issue_event at command memory = by_copy (slice_get net.copies at) refl
     where
       by_copy : (o : Option Log) → slice_get net.copies at ≡ o → AllFormed (at_copy net o (λ copy. issue_done net at copy command memory (command_outcome copy command))).net
@@ -240,18 +236,18 @@ module _ (P : Op → Type 0) (net : Net) (kept : IsKeptNet net) (each : EachHeld
       by_copy None is formed so = refused_does refusal.NoProcessor tt
       by_copy (Some copy) is formed so = issue_does at copy command memory (command_outcome copy command) is refl formed so
 
-  pub send_event : (from first end : ℕ) (memory : Option ℕ) → Does P (event_done net (Send from first end) memory)
+  pub send_event : (from first end : ℕ) (memory : Memory) → Does P (event_done net (Send from first end) memory)
   send_event from first end memory =
       at_does from (λ copy. send_done net memory (given copy.ops first end)) (λ copy there. send_does memory copy from first end (given copy.ops first end) there refl)
 
-  pub deliver_event : (message to : ℕ) (memory : Option ℕ) → Does P (event_done net (Deliver message to) memory)
+  pub deliver_event : (message to : ℕ) (memory : Memory) → Does P (event_done net (Deliver message to) memory)
   deliver_event message to memory = at_does to (λ copy. delivered net memory to (slice_get net.messages message) copy) (λ copy there. by_message copy there (slice_get net.messages message) refl)
     where
       by_message : (copy : Log) → slice_get net.copies to ≡ Some copy → (o : Option (List Op)) → slice_get net.messages message ≡ o → Does P (delivered net memory to o copy)
       by_message copy there None is = refused_does refusal.NoMessage tt
       by_message copy there (Some batch) is = taken_does memory to batch copy there (λ op among. kept.honest.sent message batch op is among)
 
-  pub join_event : (into from : ℕ) (memory : Option ℕ) → Does P (event_done net (Join into from) memory)
+  pub join_event : (into from : ℕ) (memory : Memory) → Does P (event_done net (Join into from) memory)
   join_event into from memory =
       at_does into (λ copy. at_processor net from (λ other. joined net memory into from copy other)) (λ copy there.
       at_does from (λ other. joined net memory into from copy other) (λ other here. by_place copy there other here (into == from)))
@@ -267,18 +263,18 @@ module _ (net : Net) (kept : IsKeptNet net) where
   abbrev Nothing : Op → Type 0
   Nothing op = Unit {0}
 
-  stepped : (event : Event) (reply : Reply) (new : Net) → Steps net event reply new → Does Nothing (event_done net event (wanted reply)) → IsKeptNet new × IsTrusted reply
+  stepped : (event : Event) (reply : Reply) (new : Net) → Steps net event reply new → Does Nothing (event_done net event (memory_told reply)) → IsKeptNet new × IsTrusted reply
   stepped event reply new step does = (subst IsKeptNet step.done does.kept, subst IsTrusted step.replied does.trusted)
 
   pub issue_stepped : (at : ℕ) (command : Command) (reply : Reply) (new : Net) → Steps net (Issue at command) reply new → AllFormed new → IsKeptNet new × IsTrusted reply
   issue_stepped at command reply new step formed =
-      stepped (Issue at command) reply new step (issue_event Nothing net kept (λ i copy there op among. tt) at command (wanted reply) (subst AllFormed (sym step.done) formed) (λ i copy there op among. tt))
+      stepped (Issue at command) reply new step (issue_event Nothing net kept (λ i copy there op among. tt) at command (memory_told reply) (subst AllFormed (sym step.done) formed) (λ i copy there op among. tt))
 
   pub send_stepped : (from first end : ℕ) (reply : Reply) (new : Net) → Steps net (Send from first end) reply new → IsKeptNet new × IsTrusted reply
-  send_stepped from first end reply new step = stepped (Send from first end) reply new step (send_event Nothing net kept (λ i copy there op among. tt) from first end (wanted reply))
+  send_stepped from first end reply new step = stepped (Send from first end) reply new step (send_event Nothing net kept (λ i copy there op among. tt) from first end (memory_told reply))
 
   pub deliver_stepped : (message to : ℕ) (reply : Reply) (new : Net) → Steps net (Deliver message to) reply new → IsKeptNet new × IsTrusted reply
-  deliver_stepped message to reply new step = stepped (Deliver message to) reply new step (deliver_event Nothing net kept (λ i copy there op among. tt) message to (wanted reply))
+  deliver_stepped message to reply new step = stepped (Deliver message to) reply new step (deliver_event Nothing net kept (λ i copy there op among. tt) message to (memory_told reply))
 
   pub join_stepped : (into from : ℕ) (reply : Reply) (new : Net) → Steps net (Join into from) reply new → IsKeptNet new × IsTrusted reply
-  join_stepped into from reply new step = stepped (Join into from) reply new step (join_event Nothing net kept (λ i copy there op among. tt) into from (wanted reply))
+  join_stepped into from reply new step = stepped (Join into from) reply new step (join_event Nothing net kept (λ i copy there op among. tt) into from (memory_told reply))

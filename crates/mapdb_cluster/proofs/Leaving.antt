@@ -3,13 +3,14 @@ use Rattle.std.proofs.Common.{◌≡◌, ◌∙◌, ℕ, Bool, true, false, Ok, 
 use Rattle.std.specs.Prelude.{◌≢◌, is_ok, slice_get, if◌then◌else◌}
 use Rattle.mapdb_facts.specs.WellFormed.{all_formed}
 use Rattle.mapdb_facts.specs.declared.operations.Op.{Op}
+use Rattle.mapdb_replica.specs.Commands.{Replies}
 use Rattle.mapdb_replica.specs.Giving.{given}
 use Rattle.mapdb_replica.specs.Replica.{Log}
 use Rattle.mapdb_replica.specs.declared.commands.Command.{Command}
 use Rattle.mapdb_cluster.specs.Honest.{IsTrusted}
 use Rattle.mapdb_cluster.specs.Kept.{IsKeptNet}
 use Rattle.mapdb_cluster.specs.Net.{Net, with_copy, with_message}
-use Rattle.mapdb_cluster.specs.Steps.{Commands, Steps, TakesWith}
+use Rattle.mapdb_cluster.specs.Steps.{Steps, TakesWith, applied_reply}
 use Rattle.mapdb_cluster.specs.declared.events.Event.TheVariants.{Send}
 use Rattle.mapdb_cluster.specs.declared.events.Refusal.TheVariants as refusal
 use Rattle.mapdb_cluster.specs.declared.events.Reply.{Reply}
@@ -19,7 +20,7 @@ use Rattle.mapdb_cluster.proofs.HonestSteps.{deliver_stepped, issue_stepped, joi
 use Rattle.mapdb_cluster.proofs.StepEvents.{deliver_step, issue_step, join_step, send_step, send_wants}
 
 module _ (net : Net) (kept : IsKeptNet net) where
-  pub issue_left : (at : ℕ) (copy new : Log) (command : Command) (reply : Reply) → slice_get net.copies at ≡ Some copy → Commands command copy reply new → all_formed new.ops ≡ true
+  pub issue_left : (at : ℕ) (copy new : Log) (command : Command) (reply : Reply) → slice_get net.copies at ≡ Some copy → Replies applied_reply command copy reply new → all_formed new.ops ≡ true
       → IsKeptNet (with_copy net at new) × IsTrusted reply
   issue_left at copy new command reply there is formed =
       issue_stepped net kept at command reply (with_copy net at new) (issue_step net at copy new command reply there is)

@@ -3,14 +3,15 @@ use Rattle.std.proofs.Common.{◌≡◌, ℕ, Bool, true, false, Err, Ok, Result
 use Rattle.std.specs.Prelude.{◌≢◌, ◌==◌, IsOk, Option, None, slice_get, if◌then◌else◌}
 use Rattle.std.proofs.lemmas.Bool.{eq-eqb, eqb-true, false≢true}
 use Rattle.mapdb_facts.specs.declared.operations.Op.{Op}
-use Rattle.mapdb_replica.specs.Commands.{command_outcome}
+use Rattle.mapdb_replica.specs.Commands.{Replies, command_outcome}
 use Rattle.mapdb_replica.specs.Giving.{given}
+use Rattle.mapdb_replica.specs.Memory.{Memory}
 use Rattle.mapdb_replica.specs.Replica.{Log}
 use Rattle.mapdb_replica.specs.declared.commands.Command.{Command}
 use Rattle.mapdb_replica.specs.declared.faults.GiveFault.{GiveFault}
 use Rattle.mapdb_replica.specs.declared.faults.GiveFault.TheVariants as give
 use Rattle.mapdb_cluster.specs.Net.{Done, Net, at_copy, at_processor, delivered, event_done, issue_done, joined, send_done, taken_at, with_copy, with_message}
-use Rattle.mapdb_cluster.specs.Steps.{Commands, Steps, TakesWith}
+use Rattle.mapdb_cluster.specs.Steps.{Steps, TakesWith, applied_reply}
 use Rattle.mapdb_cluster.specs.declared.events.Event.TheVariants.{Deliver, Issue, Join, Send}
 use Rattle.mapdb_cluster.specs.declared.events.Refusal.TheVariants as refusal
 use Rattle.mapdb_cluster.specs.declared.events.Reply.{Reply}
@@ -45,7 +46,7 @@ module _ (net : Net) where
       (λ memory. at_there into copy (λ c. at_processor net from (λ other. joined net memory into from c other)) there ∙ ap (λ (o : Option Log). at_copy net o (λ other. joined net memory into from copy other)) gone)
       (refused_tells net refusal.NoProcessor)
 
-  pub issue_step : (at : ℕ) (copy new : Log) (command : Command) (reply : Reply) → slice_get net.copies at ≡ Some copy → Commands command copy reply new → Steps net (Issue at command) reply (with_copy net at new)
+  pub issue_step : (at : ℕ) (copy new : Log) (command : Command) (reply : Reply) → slice_get net.copies at ≡ Some copy → Replies applied_reply command copy reply new → Steps net (Issue at command) reply (with_copy net at new)
   issue_step at copy new command reply there is =
       tells_step net (Issue at command) (λ memory. issue_done net at copy command memory (command_outcome copy command)) reply (with_copy net at new)
       (λ memory. at_there at copy (λ c. issue_done net at c command memory (command_outcome c command)) there)
@@ -64,7 +65,7 @@ module _ (net : Net) where
       (λ memory. at_there to copy (λ c. delivered net memory to (slice_get net.messages message) c) there ∙ ap (λ (o : Option (List Op)). delivered net memory to o copy) sent)
       (take_tells net to copy new batch there reply is)
 
-  joined_where : (memory : Option ℕ) (into from : ℕ) (copy other : Log) (b : Bool) → (into == from) ≡ b
+  joined_where : (memory : Memory) (into from : ℕ) (copy other : Log) (b : Bool) → (into == from) ≡ b
       → joined net memory into from copy other ≡ (if b then record { reply = Taken 0; net = net; taker = into; took = copy.ops } else taken_at net memory into other.ops copy)
   joined_where memory into from copy other b is = ap (λ (x : Bool). if x then record { reply = Taken 0; net = net; taker = into; took = copy.ops } else taken_at net memory into other.ops copy) is
 
@@ -91,7 +92,7 @@ module _ (net : Net) where
 
   -- sending
   module _ (from first end : ℕ) (copy : Log) (there : slice_get net.copies from ≡ Some copy) where
-    sent_at : (memory : Option ℕ) → event_done net (Send from first end) memory ≡ send_done net memory (given copy.ops first end)
+    sent_at : (memory : Memory) → event_done net (Send from first end) memory ≡ send_done net memory (given copy.ops first end)
     sent_at memory = at_there from copy (λ c. send_done net memory (given c.ops first end)) there
 
     pub send_step : (ops : List Op) (count : ℕ) → given copy.ops first end ≡ Ok ops → count ≡ length ops → Steps net (Send from first end) (Sent (length net.messages) count) (with_message net ops)

@@ -1,5 +1,6 @@
 -- Runs in which one copy alone issues commands, and hears from no other.
-use Rattle.std.specs.Prelude.{◌≡◌, ◌≢◌, ◌<◌, ℕ, List, [], ◌∷◌, Option, Some, None}
+use Rattle.std.specs.Prelude.{◌≡◌, ◌≢◌, ◌<◌, ℕ, List, [], ◌∷◌, Some}
+use Rattle.mapdb_replica.specs.Memory.{Enough, Memory}
 use Rattle.mapdb_replica.specs.Replica.{Log, empty}
 use Rattle.mapdb_replica.specs.declared.commands.Command.{Command}
 use Rattle.mapdb_tree.specs.Tree.{Tree, first_tree}
@@ -10,10 +11,10 @@ use Rattle.mapdb_cluster.specs.Run.{Happens, Loads, Move, Run, copy_of}
 use Rattle.mapdb_cluster.specs.declared.events.Event.{Event}
 use Rattle.mapdb_cluster.specs.declared.events.Event.TheVariants.{Deliver, Issue, Join, Send}
 
--- A command is issued at this processor, with memory for all of it; a copy may send; what others
+-- A command is issued at this processor, with memory enough; a copy may send; what others
 -- hear is not looked at.
-abbrev pub LeavesAlone : ℕ → Event → Option ℕ → Type 0
-LeavesAlone at (Issue to command) memory = (to ≡ at) × (memory ≡ None)
+abbrev pub LeavesAlone : ℕ → Event → Memory → Type 0
+LeavesAlone at (Issue to command) memory = (to ≡ at) × (memory ≡ Enough)
 LeavesAlone at (Send from first end) memory = Unit {0}
 LeavesAlone at (Deliver message to) memory = to ≢ at
 LeavesAlone at (Join into from) memory = into ≢ at

@@ -3,7 +3,7 @@
 use Rattle.std.specs.Prelude.{◌≡◌, ℕ, ◌≤◌, List, [], ◌∷◌, slice_get, Some}
 use Rattle.mapdb_facts.specs.Names.{processor_limit}
 use Rattle.mapdb_facts.specs.Records.{IsAmong}
-use Rattle.mapdb_facts.specs.State.{Agree}
+use Rattle.mapdb_facts.specs.State.{ListsDoNotClash}
 use Rattle.mapdb_facts.specs.declared.operations.Op.{Op}
 use Rattle.mapdb_facts.specs.declared.operations.Op.TheVariants.{Born, Closed, Cut}
 use Rattle.mapdb_replica.specs.Commands.{IsCommand}
@@ -36,7 +36,7 @@ pub record IsHonest (net : Net) : Type 0 where
       → slice_get net.messages message ≡ Some batch → IsAmong op batch → IsIssued net op
   pub one_each : (at other : ℕ) (copy another : Log) → slice_get net.copies at ≡ Some copy
       → slice_get net.copies other ≡ Some another
-      → Agree copy.ops another.ops
+      → ListsDoNotClash copy.ops another.ops
 
 -- no operation is refused as bad, nor for a clash
 abbrev pub IsTrusted : Reply → Type 0

@@ -1,20 +1,19 @@
 -- A cluster of copies with the messages between them, and what one event does.
-use Rattle.std.specs.Prelude.{ℕ, ◌++◌, ◌==◌, List, [], ◌∷◌, length, map, take, slice_get}
-use Rattle.std.specs.Prelude.{slice_set, Option, Some, None, Result, Ok, Err, if◌then◌else◌}
+use Rattle.std.specs.Prelude.{ℕ, ◌++◌, ◌==◌, List, [], ◌∷◌, length, map, slice_get, slice_set}
+use Rattle.std.specs.Prelude.{Option, Some, None, Result, Ok, Err, if◌then◌else◌}
 use Rattle.std.specs.List.{range_with_len}
-use Rattle.mapdb_facts.specs.State.{state_of}
 use Rattle.mapdb_facts.specs.declared.operations.Op.{Op}
 use Rattle.mapdb_replica.specs.Commands.{command_outcome}
 use Rattle.mapdb_replica.specs.Giving.{given}
-use Rattle.mapdb_replica.specs.Replica.{Log, empty, first_number, record_names, news, with_issued}
-use Rattle.mapdb_replica.specs.Taking.{take_outcome, with_taken}
+use Rattle.mapdb_replica.specs.Memory.{EndsAfter, Enough, Memory, lasting}
+use Rattle.mapdb_replica.specs.Replica.{Log, empty, first_number, record_names, with_issued}
+use Rattle.mapdb_replica.specs.Taking.{refusal_told, take_answer, take_left, take_outcome}
 use Rattle.mapdb_replica.specs.declared.commands.Command.{Command}
 use Rattle.mapdb_replica.specs.declared.commands.Command.TheVariants.{End, Map, Unmap}
 use Rattle.mapdb_replica.specs.declared.faults.GiveFault.{GiveFault}
 use Rattle.mapdb_replica.specs.declared.faults.IssueFault.{IssueFault}
 use Rattle.mapdb_replica.specs.declared.faults.IssueFault.TheVariants as issue
 use Rattle.mapdb_replica.specs.declared.faults.TakeFault.{TakeFault}
-use Rattle.mapdb_replica.specs.declared.faults.TakeFault.TheVariants as take_fault
 use Rattle.mapdb_cluster.specs.declared.events.Event.{Event}
 use Rattle.mapdb_cluster.specs.declared.events.Event.TheVariants.{Deliver, Issue, Join, Send}
 use Rattle.mapdb_cluster.specs.declared.events.Refusal.{Refusal}
@@ -57,61 +56,54 @@ issue_reply (Map sender item receiver window) ops =
 issue_reply (Unmap space page rights flush) ops = Revoked (length ops)
 issue_reply (End space) ops = Ended
 
--- The event's one free choice is how far memory lasts: for all, or for so many operations.
+-- The event's one free choice is how far memory lasts.
 
--- what a command comes to: all is issued, or the first so many
-abbrev pub issue_done : Net → ℕ → Log → Command → Option ℕ → Result (List Op) IssueFault → Done
+-- the reply to a command that issued these, unless memory ended
+abbrev pub issued_reply : Memory → Command → List Op → Reply
+issued_reply Enough command ops = issue_reply command ops
+issued_reply (EndsAfter count) command ops = Refused (refusal.Issue (issue.Memory count))
+
+-- what a command comes to: all that memory lasts for is issued
+abbrev pub issue_done : Net → ℕ → Log → Command → Memory → Result (List Op) IssueFault → Done
 issue_done net at copy command memory (Err fault) = refused net (refusal.Issue fault)
-issue_done net at copy command None (Ok ops) =
-    record {
-      reply = issue_reply command ops;
-      net = with_copy net at (with_issued copy ops);
-      taker = at;
-      took = ops;
-    }
-issue_done net at copy command (Some n) (Ok ops) = record {
-  reply = Refused (refusal.Issue (issue.Memory n));
-  net = with_copy net at (with_issued copy (take n ops));
+issue_done net at copy command memory (Ok ops) = record {
+  reply = issued_reply memory command ops;
+  net = with_copy net at (with_issued copy (lasting memory ops));
   taker = at;
-  took = take n ops;
+  took = lasting memory ops;
 }
 
--- A refused batch changes nothing. Memory may be wanted before a clash or the limit is found, and
--- never before a bad operation.
-abbrev pub take_refused : Net → Option ℕ → TakeFault → Done
-take_refused net memory (take_fault.Bad place why) =
-    refused net (refusal.Take (take_fault.Bad place why))
-take_refused net None fault = refused net (refusal.Take fault)
-take_refused net (Some n) fault = refused net (refusal.Take (take_fault.Memory 0))
+-- the reply to a batch that a copy took, or did not take
+abbrev pub taken_reply : Result ℕ TakeFault → Reply
+taken_reply (Ok count) = Taken count
+taken_reply (Err fault) = Refused (refusal.Take fault)
 
--- what taking a batch comes to: all that is new stands, or what is new of the first so many
-abbrev pub take_done : Net → ℕ → Log → List Op → Option ℕ → Result (List Op) TakeFault → Done
+-- a refused batch changes nothing
+abbrev pub take_refused : Net → Memory → TakeFault → Done
+take_refused net memory fault = refused net (refusal.Take (refusal_told memory fault))
+
+-- what taking a batch comes to: all that is new stands, or what is new of that for which memory
+-- lasts
+abbrev pub take_done : Net → ℕ → Log → List Op → Memory → Result (List Op) TakeFault → Done
 take_done net at copy batch memory (Err fault) = take_refused net memory fault
-take_done net at copy batch None (Ok ops) =
-    record {
-      reply = Taken (length ops);
-      net = with_copy net at (with_taken copy ops);
-      taker = at;
-      took = batch;
-    }
-take_done net at copy batch (Some n) (Ok ops) = record {
-  reply = Refused (refusal.Take (take_fault.Memory n));
-  net = with_copy net at (with_taken copy (news (state_of copy.ops) (take n batch)));
+take_done net at copy batch memory (Ok ops) = record {
+  reply = taken_reply (take_answer memory (Ok ops));
+  net = with_copy net at (take_left memory batch (Ok ops) copy);
   taker = at;
-  took = take n batch;
+  took = lasting memory batch;
 }
 
 -- what sending comes to: the message is kept
-abbrev pub send_done : Net → Option ℕ → Result (List Op) GiveFault → Done
+abbrev pub send_done : Net → Memory → Result (List Op) GiveFault → Done
 send_done net memory (Err fault) = refused net refusal.Mark
-send_done net None (Ok ops) =
+send_done net Enough (Ok ops) =
     record {
       reply = Sent (length net.messages) (length ops);
       net = with_message net ops;
       taker = 0;
       took = [];
     }
-send_done net (Some n) (Ok ops) = refused net refusal.Memory
+send_done net (EndsAfter count) (Ok ops) = refused net refusal.Memory
 
 -- what is done at a processor's copy
 abbrev pub at_copy : Net → Option Log → (Log → Done) → Done
@@ -122,22 +114,22 @@ abbrev pub at_processor : Net → ℕ → (Log → Done) → Done
 at_processor net at done = at_copy net (slice_get net.copies at) done
 
 -- a copy takes a batch
-abbrev pub taken_at : Net → Option ℕ → ℕ → List Op → Log → Done
+abbrev pub taken_at : Net → Memory → ℕ → List Op → Log → Done
 taken_at net memory at batch copy = take_done net at copy batch memory (take_outcome copy.ops batch)
 
 -- a copy takes a message, if it was sent
-abbrev pub delivered : Net → Option ℕ → ℕ → Option (List Op) → Log → Done
+abbrev pub delivered : Net → Memory → ℕ → Option (List Op) → Log → Done
 delivered net memory to None copy = refused net refusal.NoMessage
 delivered net memory to (Some batch) copy = taken_at net memory to batch copy
 
 -- a copy takes another one's operations; its own are not new
-abbrev pub joined : Net → Option ℕ → ℕ → ℕ → Log → Log → Done
+abbrev pub joined : Net → Memory → ℕ → ℕ → Log → Log → Done
 joined net memory into from copy other =
     if into == from then record { reply = Taken 0; net = net; taker = into; took = copy.ops }
     else taken_at net memory into other.ops copy
 
 -- what an event does, where memory lasts so far
-abbrev pub event_done : Net → Event → Option ℕ → Done
+abbrev pub event_done : Net → Event → Memory → Done
 event_done net (Issue at command) memory =
     at_processor net at (λ copy. issue_done net at copy command memory
     (command_outcome copy command))

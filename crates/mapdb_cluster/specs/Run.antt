@@ -1,8 +1,9 @@
 -- Runs of a cluster, with lists from outside too: what is replied, what the copies are in the end,
 -- and what each of them took.
-use Rattle.std.specs.Prelude.{ℕ, ◌++◌, ◌==◌, List, [], ◌∷◌, map, slice_get, Option, None}
+use Rattle.std.specs.Prelude.{ℕ, ◌++◌, ◌==◌, List, [], ◌∷◌, map, slice_get, Option}
 use Rattle.std.specs.Prelude.{if◌then◌else◌}
 use Rattle.mapdb_facts.specs.declared.operations.Op.{Op}
+use Rattle.mapdb_replica.specs.Memory.{Enough, Memory}
 use Rattle.mapdb_replica.specs.Replica.{Log}
 use Rattle.mapdb_cluster.specs.Net.{Done, Net, at_processor, event_done, new_net, taken_at}
 use Rattle.mapdb_cluster.specs.declared.events.Event.{Event}
@@ -11,8 +12,8 @@ use Rattle.mapdb_cluster.specs.declared.events.Reply.{Reply}
 -- A move of a run, each with how far memory lasts: an event, or a copy that takes a list from
 -- outside.
 pub data Move : Type 0 where
-  Happens : (event : Event) (memory : Option ℕ) → Move
-  Loads : (at : ℕ) (ops : List Op) (memory : Option ℕ) → Move
+  Happens : (event : Event) (memory : Memory) → Move
+  Loads : (at : ℕ) (ops : List Op) (memory : Memory) → Move
 
 abbrev pub move_done : Net → Move → Done
 move_done net (Happens event memory) = event_done net event memory
@@ -33,7 +34,7 @@ abbrev pub took_by : Done → ℕ → List Op
 took_by done at = if done.taker == at then done.took else []
 
 -- what a copy took by the moves: what it issued, what stood in the messages and lists that it took,
--- and what the other copy held at a join; of a move that wanted memory the part that stands
+-- and what the other copy held at a join; where memory ended, the part that stands
 abbrev pub took : Net → List Move → ℕ → List Op
 took net [] at = []
 took net (move ∷ moves) at =
@@ -56,6 +57,6 @@ copy_of run at = slice_get (last_net run).copies at
 abbrev pub took_in : Run → ℕ → List Op
 took_in run at = took (new_net run.count) run.moves at
 
--- the events, with memory for all
+-- the events, with memory enough
 abbrev pub all_done : List Event → List Move
-all_done events = map (λ event. Happens event None) events
+all_done events = map (λ event. Happens event Enough) events

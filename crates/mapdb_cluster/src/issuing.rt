@@ -2,8 +2,8 @@
 
 ghost use Rattle.std.specs.Prelude.{◌≡◌, IfOk, true};
 ghost use Rattle.mapdb_facts.specs.WellFormed.{all_formed};
-ghost use Rattle.mapdb_replica.specs.Commands.{AreFew};
-ghost use Rattle.mapdb_cluster.specs.Steps.{Commands, applied_reply};
+ghost use Rattle.mapdb_replica.specs.Commands.{AreFew, Replies};
+ghost use Rattle.mapdb_cluster.specs.Steps.{applied_reply};
 
 use crate::events::{Refusal, Reply};
 use mapdb_replica::{Applied, Command, IssueFault, Replica, first_number};
@@ -26,7 +26,7 @@ fn applied_reply(applied: Result<Applied, IssueFault>) -> Reply
 
 /// Does a command at a copy.
 pub(crate) fn issue(copy: &mut Replica, command: &Command) -> Reply
-    ensures commands { Commands command.now copy.old result copy.new }
+    ensures commands { Replies applied_reply command.now copy.old result copy.new }
     ensures formed { all_formed copy.new.ops ≡ true }
 {
     applied_reply(copy.apply(command))

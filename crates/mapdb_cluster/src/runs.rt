@@ -13,12 +13,13 @@ pub enum RunFault {
 }
 
 impl Reply {
-    ghost use Rattle.std.specs.Prelude.{◌≡◌, is_some};
-    ghost use Rattle.mapdb_cluster.specs.Steps.{wanted};
+    ghost use Rattle.std.specs.Prelude.{◌≡◌};
+    ghost use Rattle.mapdb_replica.specs.Memory.{ends};
+    ghost use Rattle.mapdb_cluster.specs.Steps.{memory_told};
 
     /// Whether memory was wanted, so that the event does not stand, or not as a whole.
     pub fn is_want_of_memory(&self) -> bool
-        ensures { result ≡ is_some (wanted self.now) }
+        ensures { result ≡ ends (memory_told self.now) }
     {
         match self {
             Reply::Refused(Refusal::Issue(IssueFault::Memory { .. })) => true,

@@ -1,7 +1,8 @@
 //! What taking a batch at one copy is replied.
 
 ghost use Rattle.std.specs.Prelude.{◌≡◌, ◌≢◌, ◌<◌, length};
-ghost use Rattle.mapdb_cluster.specs.Steps.{Joins, TakesWith, taken_reply};
+ghost use Rattle.mapdb_cluster.specs.Net.{taken_reply};
+ghost use Rattle.mapdb_cluster.specs.Steps.{Joins, TakesWith};
 
 use crate::events::{Refusal, Reply};
 use mapdb_facts::Op;

@@ -1,27 +1,25 @@
 -- After a replay a copy holds the atoms of what it issued and of what it took.
-use Rattle.std.proofs.Common.{◌≡◌, ℕ, true, true≢false, List, [], ◌∷◌, ◌++◌, ◌⊎◌, ⊎_elim, inl, inr, refl, sym, ap, ◌∙◌, subst, take}
+use Rattle.std.proofs.Common.{◌≡◌, ℕ, true, true≢false, List, [], ◌∷◌, ◌++◌, ◌⊎◌, ⊎_elim, inl, inr, refl, sym, ap, ◌∙◌, subst}
 use Rattle.std.specs.Prelude.{◌↔◌, Option, Some, None, Result, Ok, Err}
 use Rattle.std.specs.List.{list_all}
 use Rattle.std.proofs.lemmas.Bool.{and_parts}
 use Rattle.mapdb_facts.specs.State.{Atom, HasAtom, state_of}
 use Rattle.mapdb_facts.specs.declared.operations.Op.{Op}
 use Rattle.mapdb_facts.proofs.Joins.{atom_append, atom_left, atom_right}
-use Rattle.mapdb_replica.specs.Commands.{Applies, command_outcome}
-use Rattle.mapdb_replica.specs.Replica.{Log, news, with_issued}
-use Rattle.mapdb_replica.specs.Taking.{take_outcome, take_refusal, taken_unless, with_taken}
-use Rattle.mapdb_replica.specs.declared.commands.Applied.{Applied}
-use Rattle.mapdb_replica.specs.declared.commands.Command.{Command}
+use Rattle.mapdb_replica.specs.Commands.{command_outcome}
+use Rattle.mapdb_replica.specs.Memory.{Memory, issue_memory, lasting}
+use Rattle.mapdb_replica.specs.Replica.{Log, issue_left, news, with_issued}
+use Rattle.mapdb_replica.specs.Taking.{Takes, take_outcome, take_refusal, taken_unless, with_taken}
 use Rattle.mapdb_replica.specs.declared.faults.IssueFault.{IssueFault}
-use Rattle.mapdb_replica.specs.declared.faults.IssueFault.TheVariants as issue
 use Rattle.mapdb_replica.specs.declared.faults.TakeFault.{TakeFault}
+use Rattle.mapdb_replica.proofs.CallCases.{take_cases}
 use Rattle.mapdb_replica.proofs.NewsAtoms.{news_give}
 use Rattle.mapdb_node.specs.Journals.{Replays}
-use Rattle.mapdb_node.specs.Steps.{NodeSteps, TakesOne}
+use Rattle.mapdb_node.specs.Steps.{NodeSteps, taken_reply}
 use Rattle.mapdb_node.specs.declared.events.Entry.{Entry}
 use Rattle.mapdb_node.specs.declared.events.NodeEvent.{NodeEvent}
 use Rattle.mapdb_node.specs.declared.events.NodeEvent.TheVariants.{Issue, OwnAt, Served, Take}
 use Rattle.mapdb_node.specs.declared.events.NodeReply.{NodeReply}
-use Rattle.mapdb_node.specs.declared.events.NodeReply.TheVariants as reply
 use Rattle.mapdb_exchange.specs.Reports.{with_take, was_taken, is_heard}
 
 -- the operations of all Takes, the last one first, and then those given
@@ -68,36 +66,24 @@ taken_news : (refusal : Option TakeFault) (xs ops : List Op) → taken_unless re
 taken_news None xs ops e = cc
 taken_news (Some fault) xs ops e = cc
 
-issue_step : (command : Command) (outcome : Result (List Op) IssueFault) (result : Result Applied IssueFault) (old new : Log) (taken : List Op)
-    → Applies command outcome result old new → Gathers old taken → Gathers new taken
-issue_step command (Err refusal) (Ok applied) old new taken h has = absurd h
-issue_step command (Err refusal) (Err fault) old new taken h has = subst (λ (x : Log). Gathers x taken) (sym h.1) has
-issue_step command (Ok ops) (Ok applied) old new taken h has = subst (λ (x : Log). Gathers x taken) (sym h.1) (issue_gathers old ops taken has)
-issue_step command (Ok ops) (Err (issue.Memory n)) old new taken h has = subst (λ (x : Log). Gathers x taken) (sym h.1) (issue_gathers old (take n ops) taken has)
-issue_step command (Ok ops) (Err (issue.SpaceEnded space)) old new taken h has = absurd h
-issue_step command (Ok ops) (Err issue.RootSpace) old new taken h has = absurd h
-issue_step command (Ok ops) (Err issue.NumbersSpent) old new taken h has = absurd h
-issue_step command (Ok ops) (Err issue.Full) old new taken h has = absurd h
+issue_step : (memory : Memory) (outcome : Result (List Op) IssueFault) (old : Log) (taken : List Op) → Gathers old taken → Gathers (issue_left memory outcome old) taken
+issue_step memory (Err refusal) old taken has = has
+issue_step memory (Ok ops) old taken has = issue_gathers old (lasting memory ops) taken has
 
-take_step : (op : Op) (outcome : Result (List Op) TakeFault) (r : NodeReply) (old new : Log) (taken : List Op)
-    → take_outcome old.ops (op ∷ []) ≡ outcome → was_taken r ≡ true → TakesOne op outcome r old new → Gathers old taken → Gathers new (op ∷ taken)
-take_step op (Err refusal) r old new taken is held h has = absurd (true≢false (sym held ∙ ap was_taken h.1))
-take_step op (Ok ops) (reply.Taken new_one) old new taken is held h has =
+take_step : (op : Op) (outcome : Result (List Op) TakeFault) (result : Result ℕ TakeFault) (old new : Log) (taken : List Op)
+    → take_outcome old.ops (op ∷ []) ≡ outcome → was_taken (taken_reply result) ≡ true → Takes (op ∷ []) outcome result old new → Gathers old taken → Gathers new (op ∷ taken)
+take_step op outcome (Err fault) old new taken is held h has = absurd (true≢false (sym held))
+take_step op (Err refusal) (Ok count) old new taken is held h has = absurd (take_cases (op ∷ []) (Err refusal) (Ok count) old new h)
+take_step op (Ok ops) (Ok count) old new taken is held h has =
     let Held : Log → Type 0 = λ x. Gathers x (op ∷ taken) in
     let all : ops ≡ news (state_of old.ops) (op ∷ []) = taken_news (take_refusal old.ops (op ∷ [])) (news (state_of old.ops) (op ∷ [])) ops is in
     subst Held (sym (h.1 ∙ ap (with_taken old) all)) (take_gathers old op taken has)
-take_step op (Ok ops) (reply.IssueRefused why) old new taken is held h has = absurd (true≢false (sym held))
-take_step op (Ok ops) (reply.Issued first count) old new taken is held h has = absurd (true≢false (sym held))
-take_step op (Ok ops) (reply.Revoked count) old new taken is held h has = absurd (true≢false (sym held))
-take_step op (Ok ops) reply.Ended old new taken is held h has = absurd (true≢false (sym held))
-take_step op (Ok ops) (reply.Served found) old new taken is held h has = absurd (true≢false (sym held))
-take_step op (Ok ops) (reply.Own found) old new taken is held h has = absurd (true≢false (sym held))
-take_step op (Ok ops) (reply.TakeRefused why) old new taken is held h has = absurd (true≢false (sym held))
 
 step_gathers : (old : Log) (e : NodeEvent) (r : NodeReply) (new : Log) (taken : List Op) (seats : List ℕ) (seat : ℕ) → NodeSteps old e r new → is_heard seats seat e r ≡ true → Gathers old taken → Gathers new (with_take true e taken)
 unfolding NodeSteps
-step_gathers old (Issue command) r new taken seats seat h heard has = issue_step command (command_outcome old command) h.0 old new taken h.1 has
-step_gathers old (Take op) r new taken seats seat h heard has = take_step op (take_outcome old.ops (op ∷ [])) r old new taken refl (and_parts (was_taken r) _ heard).0 h has
+step_gathers old (Issue command) r new taken seats seat h heard has = subst (λ (x : Log). Gathers x taken) (sym h.1.1.1) (issue_step (issue_memory h.0) (command_outcome old command) old taken has)
+step_gathers old (Take op) r new taken seats seat h heard has =
+    take_step op (take_outcome old.ops (op ∷ [])) h.0 old new taken refl (sym (ap was_taken h.2) ∙ (and_parts (was_taken r) _ heard).0) h.1 has
 step_gathers old (Served space page) r new taken seats seat h heard has = subst (λ (x : Log). Gathers x taken) (sym h.1) has
 step_gathers old (OwnAt place) r new taken seats seat h heard has = subst (λ (x : Log). Gathers x taken) (sym h.1) has
 

@@ -2,6 +2,20 @@
 //! over links what they issue.
 //!
 //! A [`link`] carries [`Message`]s in order from an [`Outgoing`] end to an [`Incoming`] one.
+//!
+//! # A use
+//!
+//! ```
+//! let end = |number| Command::End { space: Space::first(number) };
+//! let mut scripts = Vec::new(rt.alloc());
+//! scripts.push(vec![in rt.alloc(); end(1), end(2)]?)?;
+//! scripts.push(vec![in rt.alloc(); end(3)]?)?;
+//! let Ok(report) = run(&rt, rt.alloc(), scripts, 16, &Open) else {
+//!     return Ok(());
+//! };
+//! let (first, second) = (&report.parts[0], &report.parts[1]);
+//! assert!(rt; first.history.copy().same(second.history.copy()));
+//! ```
 #![tactic(auto)]
 
 mod exchange;

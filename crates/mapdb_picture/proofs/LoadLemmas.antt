@@ -3,9 +3,10 @@ use Rattle.std.proofs.Common.{◌≡◌, ℕ, List, [], ◌++◌, inl, inr, refl
 use Rattle.std.specs.Prelude.{◌⊎◌, Result, Ok, Err}
 use Rattle.mapdb_facts.specs.declared.operations.Op.{Op}
 use Rattle.mapdb_replica.specs.Replica.{Log, empty}
-use Rattle.mapdb_replica.specs.Taking.{IsRefusedAs, Takes, take_outcome}
+use Rattle.mapdb_replica.specs.Taking.{Takes, take_outcome}
 use Rattle.mapdb_replica.specs.declared.faults.TakeFault.{TakeFault}
 use Rattle.mapdb_replica.specs.declared.faults.TakeFault.TheVariants as take
+use Rattle.mapdb_replica.proofs.CallCases.{IsRefusedAs, TakeCases, take_cases}
 use Rattle.mapdb_snapshot.specs.Reading.{snapshot_of}
 use Rattle.mapdb_picture.specs.Loading.{loaded_of, of_take_fault, or_take_fault, taken_of}
 use Rattle.mapdb_picture.specs.declared.faults.LoadFault.{LoadFault}
@@ -21,7 +22,7 @@ held : (batch : List Op) (outcome : Result (List Op) TakeFault) (count : ℕ) (o
     → Takes batch outcome (Ok count) old new → or_take_fault outcome ≡ Ok new.ops
 held batch (Ok ops) count old new fresh takes =
     ap (λ (xs : List Op). Ok xs) (sym (ap (λ (log : Log). log.ops) takes.1 ∙ ap (λ (log : Log). log.ops ++ ops) fresh))
-held batch (Err fault) count old new fresh takes = absurd takes
+held batch (Err fault) count old new fresh takes = absurd (take_cases batch (Err fault) (Ok count) old new takes)
 
 pub copy_held : (bytes : List ℕ) (items batch : List Op) (count : ℕ) (old new : Log) → snapshot_of bytes ≡ Ok items → batch ≡ items
     → old ≡ empty 0 → Takes batch (take_outcome old.ops batch) (Ok count) old new → loaded_of bytes ≡ Ok new.ops
@@ -45,7 +46,7 @@ told_as (take.Memory n) fault is = elim is [
   | inr e ↦ inl (ap of_take_fault e)
 ]
 
-refused : (batch : List Op) (outcome : Result (List Op) TakeFault) (fault : TakeFault) (old new : Log) → Takes batch outcome (Err fault) old new
+refused : (batch : List Op) (outcome : Result (List Op) TakeFault) (fault : TakeFault) (old new : Log) → TakeCases batch outcome (Err fault) old new
     → (of_take_fault fault ≡ Memory) ⊎ (or_take_fault outcome ≡ Err (of_take_fault fault))
 refused batch (Ok ops) (take.Memory n) old new takes = inl refl
 refused batch (Ok ops) (take.Bad place why) old new takes = absurd takes
@@ -57,7 +58,7 @@ pub copy_refused : (bytes : List ℕ) (items batch : List Op) (fault : TakeFault
     → batch ≡ items → old ≡ empty 0 → Takes batch (take_outcome old.ops batch) (Err fault) old new → told ≡ of_take_fault fault
     → (told ≡ Memory) ⊎ (loaded_of bytes ≡ Err told)
 copy_refused bytes items batch fault told old new read same fresh takes is =
-    elim (refused batch (take_outcome old.ops batch) fault old new takes) [
+    elim (refused batch (take_outcome old.ops batch) fault old new (take_cases batch (take_outcome old.ops batch) (Err fault) old new takes)) [
       | inl e ↦ inl (is ∙ e)
       | inr e ↦ inr (loaded_is bytes items batch old read same fresh ∙ e ∙ ap (λ (f : LoadFault). Err f) (sym is))
     ]

@@ -15,4 +15,4 @@ returns-else-count-eq0-clause-issues c receiver =
     let count : length all ≡ length (held_pieces log c.args.sender c.args.carried.now) =
     length-numbered (greatest_number (records_of log.ops) + 1) log.processor receiver c.args.carried.now (held_pieces log c.args.sender c.args.carried.now) in
     let some : 0 < length all = omega (arith, count, c.piece_count-count.ensures.count, c.if-count-eq0.false) in
-    wants_memory _ log (piece_refusal log c.args.sender c.args.carried.now) all none some
+    wants_memory log (piece_refusal log c.args.sender c.args.carried.now) all none some

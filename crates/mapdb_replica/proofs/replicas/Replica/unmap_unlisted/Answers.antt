@@ -17,7 +17,7 @@ returns-then-is_full-clause-issues c =
     subst (λ (o : Result (List Op) IssueFault). Issues {A = ℕ} o (Err Full) c.args.self.now c.args.self.now)
     (sym (limited-many c.args.self.now.ops (cuts_of_place c.args.self.now c.args.space c.args.page.now c.args.rights c.args.flush) c.new_cuts-count.result c.new_cuts-count.ensures.formed c.new_cuts-count.ensures.count
     (omega (arith, c.if-is_full.true, c.len.ensures.len, same))))
-    (refl, refl)
+    (refl, refl, tt)
 
 pub returns-then-count-eq0-clause-issues : goal.returns-then-count-eq0-clause-issues
 returns-then-count-eq0-clause-issues c =
@@ -27,7 +27,7 @@ returns-then-count-eq0-clause-issues c =
     subst (λ (o : Result (List Op) IssueFault). Issues {A = ℕ} o (Ok 0) c.args.self.now c.args.self.now)
     (sym (limited-few c.args.self.now.ops cuts c.new_cuts-count.result c.new_cuts-count.ensures.formed c.new_cuts-count.ensures.count (omega (arith, c.if-is_full.false, c.len.ensures.len, same))
     ∙ ap (λ (ops : List Op). Ok ops) none))
-    (stands-start c.args.self.now [])
+    (refl, stands-start c.args.self.now [], tt)
 
 pub returns-then-count-eq0-clause-count : goal.returns-then-count-eq0-clause-count
 returns-then-count-eq0-clause-count c =
@@ -46,4 +46,4 @@ returns-else-count-eq0-clause-issues c =
     let some : 0 < count_by (is_new (state_of c.args.self.now.ops)) cuts = omega (arith, c.if-count-eq0.false, c.new_cuts-count.ensures.count) in
     subst (λ (o : Result (List Op) IssueFault). Issues {A = ℕ} o (Err (Memory 0)) c.args.self.now c.args.self.now)
     (sym (limited-few c.args.self.now.ops cuts c.new_cuts-count.result c.new_cuts-count.ensures.formed c.new_cuts-count.ensures.count (omega (arith, c.if-is_full.false, c.len.ensures.len, same))))
-    (some-news (state_of c.args.self.now.ops) cuts some, stands-start c.args.self.now (news (state_of c.args.self.now.ops) cuts))
+    (refl, stands-start c.args.self.now (news (state_of c.args.self.now.ops) cuts), some-news (state_of c.args.self.now.ops) cuts some)
