@@ -20,7 +20,11 @@ use Rattle.l4map.specs.declared.snapshots.Asked.TheVariants.{Page, Picture}
 
 -- the argument `--capacity N`, which is 16 where it is not given
 abbrev pub capacity_rule : Rule
-capacity_rule = record (new_rule (codes "capacity")) { long = Some (codes "capacity"); value_names = 1; defaults = codes "16" ∷ [] }
+capacity_rule = record (new_rule (codes "capacity")) {
+  long = Some (codes "capacity");
+  value_names = 1;
+  defaults = codes "16" ∷ [];
+}
 
 -- the subcommand `threads`
 abbrev pub threads : Shape
@@ -39,13 +43,16 @@ explain = record (new_shape (codes "explain")) {
 
 -- the program alone, which has a version and requires a subcommand
 abbrev pub program : App
-program = record { top = record (new_shape (codes "l4map")) { subcommand_required = true; has_version = true }; subs = [] }
+program = record {
+  top = record (new_shape (codes "l4map")) { subcommand_required = true; has_version = true };
+  subs = [];
+}
 
 -- the command line of the program, with its subcommands
 abbrev pub l4map : App
 l4map =
-    with_subcommand (with_subcommand (with_subcommand (with_subcommand program (new_shape (codes "run"))) threads)
-    (new_shape (codes "picture"))) explain
+    with_subcommand (with_subcommand (with_subcommand (with_subcommand program
+    (new_shape (codes "run"))) threads) (new_shape (codes "picture"))) explain
 
 -- a link holds one message at least
 abbrev pub if_some : ℕ → Option ℕ
@@ -73,7 +80,8 @@ page_said space address = page_of (space_at space) (address_at address)
 -- what the arguments of `explain` ask for
 abbrev pub page_given : List Row → Option Asked
 page_given rows =
-    option_and_then (λ space. option_and_then (page_said space) (first_of (codes "address") rows)) (first_of (codes "space") rows)
+    option_and_then (λ space. option_and_then (page_said space) (first_of (codes "address") rows))
+    (first_of (codes "space") rows)
 
 -- what a subcommand of this name asks for, by what was found for its arguments
 abbrev pub job_named : Text → List Row → Option Job

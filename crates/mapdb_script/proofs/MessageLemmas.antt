@@ -1,146 +1,149 @@
 -- What copies take from messages and from each other, and how that is told.
-use Rattle.std.proofs.Common.{◌≡◌, ◌≢◌, ℕ, ◌<◌, ◌⊎◌, inl, inr, Bool, true, false, ◌&&◌, cond, eq-eqb, List, length, get_or, refl, sym, ap, ◌∙◌, arith}
+use Rattle.std.proofs.Common.{◌≡◌, ◌≢◌, ℕ, ◌<◌, ◌⊎◌, inl, inr, Bool, true, false, ◌&&◌, cond, eq-eqb, List, length, get_or, refl, sym, subst, ap, arith}
 use Rattle.std.proofs.lemmas.Bool.{lt-ltb, ltb-false}
 use Rattle.std.proofs.lemmas.Bool.Decides.{nat_tests}
-use Rattle.std.proofs.lemmas.Option.{get_or_from_slice_get, slice_get_cases, slice_get_past, slice_get_read, slice_get_within}
+use Rattle.std.proofs.lemmas.Option.{slice_get_cases, slice_get_past, slice_get_within}
 use Rattle.std.specs.Result.{is_ok}
 use Rattle.std.specs.Prelude.{Option, Some, None, Result, Ok, Err, nat_lt, ◌==◌, slice_get}
 use Rattle.mapdb_facts.specs.declared.operations.Op.{Op}
+use Rattle.mapdb_replica.specs.Merging.{Merges}
+use Rattle.mapdb_replica.specs.Memory.{Enough}
+use Rattle.mapdb_replica.proofs.CallCases.{IsRefusedAs, TakeCases, take_cases}
 use Rattle.mapdb_replica.specs.Replica.{Log}
-use Rattle.mapdb_replica.specs.Taking.{IsRefusedAs, Takes, take_outcome}
+use Rattle.mapdb_replica.specs.Taking.{Takes, take_outcome}
 use Rattle.mapdb_replica.specs.declared.faults.TakeFault.{TakeFault}
 use Rattle.mapdb_replica.specs.declared.faults.TakeFault.TheVariants as take
 use Rattle.mapdb_snapshot.specs.declared.faults.SnapshotFault.{SnapshotFault}
-use Rattle.mapdb_script.specs.Cluster.{Cluster, LineDone, answered, at_copy, at_processor, at_processors, batch_refusal, delivered, loaded, merged, refused, take_done, with_copy, with_heard}
+use Rattle.mapdb_cluster.specs.Net.{Done, Net, at_copy, event_done, joined, refused, take_done, take_refused, taken_at, with_copy}
+use Rattle.mapdb_cluster.specs.Run.{Happens, Loads, Move}
+use Rattle.mapdb_cluster.specs.declared.events.Event.TheVariants as event
+use Rattle.mapdb_cluster.specs.declared.events.Refusal.TheVariants as unmoved
+use Rattle.mapdb_cluster.proofs.StepTells.{with_same}
+use Rattle.mapdb_script.specs.Accepting.{heard}
+use Rattle.mapdb_script.specs.Cluster.{Answered, Cluster, LineDone, Refused, accepting, happened, line_done, loaded}
 use Rattle.mapdb_script.specs.Reply.{taken_text}
-use Rattle.mapdb_replica.specs.Merging.{Merges}
-use Rattle.mapdb_script.specs.States.{AnswersText, Does, IsTakeTold}
+use Rattle.mapdb_script.specs.States.{AnswersText, Does, IsTakeTold, IsToldAs}
 use Rattle.mapdb_script.specs.declared.cluster.Reply.{Reply as Answer}
 use Rattle.mapdb_lines.specs.declared.fault.LineFault.{LineFault}
 use Rattle.mapdb_script.specs.declared.replies.Refusal.TheVariants as refusal
 use Rattle.mapdb_script.specs.declared.turn_fault.TurnFault.{TurnFault}
-use Rattle.mapdb_script.proofs.ClusterLemmas.{at_processor_there, with_copy_same}
+use Rattle.mapdb_script.proofs.ClusterLemmas.{at_there, refused_told}
 
--- what is done at two processors that are there
-pub at_processors_there : (cluster : Cluster) (at other : ℕ) (copy more : Log) (done : Log → Log → LineDone)
-    → at < length cluster.copies → other < length cluster.copies → copy ≡ get_or cluster.copies at copy → more ≡ get_or cluster.copies other more
-    → at_processors cluster at other done ≡ Ok (done copy more)
-at_processors_there cluster at other copy more done within other_within is other_is =
-    at_processor_there cluster at copy (λ (c : Log). at_copy cluster (slice_get cluster.copies other) (done c)) within is
-    ∙ rw (slice_get_read cluster.copies (length cluster.copies) other more refl other_within other_is) refl
+-- where a copy is, there is a cluster
+some_copy : (copies : List Log) (at : ℕ) (copy : Log) → slice_get copies at ≡ Some copy → nat_lt 0 (length copies) ≡ true
+some_copy copies at copy there =
+    let within = slice_get_within copies at copy there in
+    lt-ltb 0 (length copies) (omega (arith, within))
 
--- a refusal is told as it is, or as a want of memory
-refused_as : (refusal fault : TakeFault) → IsRefusedAs refusal fault → (fault ≡ refusal) ⊎ (fault ≡ take.Memory 0)
-refused_as (take.Bad place why) fault h = inl h
-refused_as (take.Clash id) fault h = h
-refused_as take.Full fault h = h
-refused_as (take.Memory taken) fault h = h
+module _ (c : Cluster) (move : Move) where
+  -- a refusal is told as it is, or as a want of memory
+  told_as : (why fault : TakeFault) (result : Result Answer TurnFault) → (fault ≡ why) ⊎ (fault ≡ take.Memory 0) → IsToldAs (unmoved.Take fault) result
+      → Does result c (Ok (line_done c move (refused c.net (unmoved.Take why))))
+  told_as why fault result (inl e) told = refused_told c move (unmoved.Take why) result (rw e at told)
+  told_as why fault result (inr e) told = let wanted = rw e at told in rw wanted tt
 
--- a refusal that is told as it is
-refusal_told : (cluster : Cluster) (refusal : TakeFault) (result : Result Answer TurnFault) → IsTakeTold (Err refusal) result
-    → Does result cluster (Ok (refused cluster (batch_refusal refusal)))
-refusal_told cluster (take.Bad place why) result told = rw told refl
-refusal_told cluster (take.Clash id) result told = rw told refl
-refusal_told cluster take.Full result told = rw told refl
-refusal_told cluster (take.Memory taken) result told = rw told tt
+  refusal_told : (why fault : TakeFault) (result : Result Answer TurnFault) → IsRefusedAs why fault → IsToldAs (unmoved.Take fault) result
+      → Does result c (Ok (line_done c move (take_refused c.net Enough why)))
+  refusal_told (take.Bad place what) fault result same told = told_as (take.Bad place what) fault result (inl same) told
+  refusal_told why fault result same told = told_as why fault result same told
 
-refused_told : (cluster : Cluster) (refusal fault : TakeFault) (result : Result Answer TurnFault) → (fault ≡ refusal) ⊎ (fault ≡ take.Memory 0) → IsTakeTold (Err fault) result
-    → Does result cluster (Ok (refused cluster (batch_refusal refusal)))
-refused_told cluster refusal fault result (inl e) told = refusal_told cluster refusal result (rw e at told)
-refused_told cluster refusal fault result (inr e) told = let wanted = rw e at told in rw wanted tt
-
-taken_told : (cluster : Cluster) (at : ℕ) (copy new : Log) (batch : List Op) (outcome : Result (List Op) TakeFault) (taken : Result ℕ TakeFault) (result : Result Answer TurnFault)
-    → copy ≡ get_or cluster.copies at copy → Takes batch outcome taken copy new → IsTakeTold taken result
-    → Does result (with_heard (with_copy cluster at new) at (is_ok taken)) (Ok (take_done cluster at copy outcome))
-taken_told cluster at copy new batch (Ok ops) (Ok count) (Ok reply) is takes told = rw (told, takes.0, takes.1) refl
-taken_told cluster at copy new batch (Ok ops) (Ok count) (Err f) is takes told = rw told tt
-taken_told cluster at copy new batch (Ok ops) (Err (take.Memory n)) result is takes told = rw told tt
-taken_told cluster at copy new batch (Ok ops) (Err (take.Bad place why)) result is takes told = absurd takes
-taken_told cluster at copy new batch (Ok ops) (Err (take.Clash id)) result is takes told = absurd takes
-taken_told cluster at copy new batch (Ok ops) (Err take.Full) result is takes told = absurd takes
-taken_told cluster at copy new batch (Err refusal) (Ok count) result is takes told = absurd takes
-taken_told cluster at copy new batch (Err refusal) (Err fault) result is takes told =
-    let same : with_copy cluster at new ≡ cluster = ap (with_copy cluster at) takes.1 ∙ with_copy_same cluster at copy is in
-    rw same (refused_told cluster refusal fault result (refused_as refusal fault takes.0) told)
+  -- what a copy was given, by a move by which it hears from others
+  taken_told : (at : ℕ) (copy new : Log) (batch : List Op) (outcome : Result (List Op) TakeFault) (taken : Result ℕ TakeFault) (result : Result Answer TurnFault)
+      → slice_get c.net.copies at ≡ Some copy → accepting c.accepted move ≡ heard c.accepted at true → TakeCases batch outcome taken copy new → IsTakeTold taken result
+      → Does result (record { net = with_copy c.net at new; accepted = heard c.accepted at (is_ok taken) }) (Ok (line_done c move (take_done c.net at copy batch Enough outcome)))
+  taken_told at copy new batch (Ok ops) (Ok count) (Ok reply) there hears takes told = rw (told, takes.0, takes.1, hears) refl
+  taken_told at copy new batch (Ok ops) (Ok count) (Err f) there hears takes told = rw told tt
+  taken_told at copy new batch (Ok ops) (Err (take.Memory n)) result there hears takes told = rw told tt
+  taken_told at copy new batch (Ok ops) (Err fault) result there hears takes told = absurd takes
+  taken_told at copy new batch (Err why) (Ok count) result there hears takes told = absurd takes
+  taken_told at copy new batch (Err why) (Err fault) result there hears takes told =
+      subst (λ (n : Net). Does result (record { net = n; accepted = c.accepted }) (Ok (line_done c move (take_refused c.net Enough why)))) (sym (with_same c.net at copy new there takes.1))
+      (refusal_told why fault result takes.0 told)
 
 -- a message that came to a copy
-pub delivery_told : (cluster : Cluster) (at message : ℕ) (copy new : Log) (batch : List Op) (taken : Result ℕ TakeFault) (result : Result Answer TurnFault)
-    → at < length cluster.copies → copy ≡ get_or cluster.copies at copy → slice_get cluster.messages message ≡ Some batch
+pub delivery_told : (c : Cluster) (at message : ℕ) (copy new : Log) (batch : List Op) (taken : Result ℕ TakeFault) (result : Result Answer TurnFault)
+    → at < length c.net.copies → copy ≡ get_or c.net.copies at copy → slice_get c.net.messages message ≡ Some batch
     → Takes batch (take_outcome copy.ops batch) taken copy new → IsTakeTold taken result
-    → Does result (with_heard (with_copy cluster at new) at (is_ok taken))
-    (at_processor cluster at (delivered cluster at (slice_get cluster.messages message)))
-delivery_told cluster at message copy new batch taken result within is sent takes told =
-    let done : at_processor cluster at (delivered cluster at (slice_get cluster.messages message)) ≡ Ok (take_done cluster at copy (take_outcome copy.ops batch)) =
-    at_processor_there cluster at copy (delivered cluster at (slice_get cluster.messages message)) within is ∙ rw sent refl in
-    rw done (taken_told cluster at copy new batch (take_outcome copy.ops batch) taken result is takes told)
+    → Does result (record { net = with_copy c.net at new; accepted = heard c.accepted at (is_ok taken) }) (happened c (event.Deliver message at))
+delivery_told c at message copy new batch taken result within is sent takes told =
+    let there = at_there c.net.copies at copy within is in
+    let done : happened c (event.Deliver message at) ≡ Ok (line_done c (Happens (event.Deliver message at) Enough) (taken_at c.net Enough at batch copy)) = rw (there.0, there.1, sent) refl in
+    rw done (taken_told c (Happens (event.Deliver message at) Enough) at copy new batch (take_outcome copy.ops batch) taken result there.1 refl (take_cases batch (take_outcome copy.ops batch) taken copy new takes) told)
 
 -- a snapshot whose operations a copy was given
-pub load_told : (cluster : Cluster) (at : ℕ) (copy new : Log) (said : Result (List Op) SnapshotFault) (batch : List Op) (taken : Result ℕ TakeFault)
-    (result : Result Answer TurnFault) → at < length cluster.copies → copy ≡ get_or cluster.copies at copy → said ≡ Ok batch
+pub load_told : (c : Cluster) (at : ℕ) (copy new : Log) (said : Result (List Op) SnapshotFault) (batch : List Op) (taken : Result ℕ TakeFault)
+    (result : Result Answer TurnFault) → at < length c.net.copies → copy ≡ get_or c.net.copies at copy → said ≡ Ok batch
     → Takes batch (take_outcome copy.ops batch) taken copy new → IsTakeTold taken result
-    → Does result (with_heard (with_copy cluster at new) at (is_ok taken)) (at_processor cluster at (loaded cluster at said))
-load_told cluster at copy new said batch taken result within is e takes told =
-    let done : at_processor cluster at (loaded cluster at said) ≡ Ok (take_done cluster at copy (take_outcome copy.ops batch)) =
-    at_processor_there cluster at copy (loaded cluster at said) within is ∙ rw e refl in
-    rw done (taken_told cluster at copy new batch (take_outcome copy.ops batch) taken result is takes told)
+    → Does result (record { net = with_copy c.net at new; accepted = heard c.accepted at (is_ok taken) }) (loaded c at said)
+load_told c at copy new said batch taken result within is e takes told =
+    let there = at_there c.net.copies at copy within is in
+    let done : loaded c at said ≡ Ok (line_done c (Loads at batch Enough) (taken_at c.net Enough at batch copy)) = rw (e, there.0, there.1) refl in
+    rw done (taken_told c (Loads at batch Enough) at copy new batch (take_outcome copy.ops batch) taken result there.1 refl (take_cases batch (take_outcome copy.ops batch) taken copy new takes) told)
+
+-- a snapshot for a processor that is not there
+pub load_nowhere : (c : Cluster) (at : ℕ) (said : Result (List Op) SnapshotFault) → (nat_lt 0 (length c.net.copies) ≡ true) × (slice_get c.net.copies at ≡ None)
+    → loaded c at said ≡ Ok (record { reply = Refused refusal.NoProcessor; cluster = c })
+load_nowhere c at (Ok batch) gone = rw (gone.0, gone.1) refl
+load_nowhere c at (Err f) gone = rw (gone.0, gone.1) refl
+
+-- a text that is no snapshot
+pub load_fault : (c : Cluster) (at : ℕ) (said : Result (List Op) SnapshotFault) (f : SnapshotFault) → at < length c.net.copies → said ≡ Err f
+    → loaded c at said ≡ Ok (record { reply = Refused (refusal.Snapshot f); cluster = c })
+load_fault c at said f within e = elim (slice_get_cases c.net.copies at).1 [
+  | inl found ↦ rw (e, some_copy c.net.copies at found.0 found.2, found.2) refl
+  | inr past ↦ absurd (omega (arith, past.0))
+]
 
 -- the second of two processors is not there
-second_missing : (cluster : Cluster) (first : Option Log) (done : Log → Log → LineDone) → at_copy cluster first (λ copy. at_copy cluster None (done copy)) ≡ refused cluster refusal.NoProcessor
-second_missing cluster None done = refl
-second_missing cluster (Some copy) done = refl
+second_missing : (net : Net) (first : Option Log) (f : Log → Log → Done) → at_copy net first (λ copy. at_copy net None (f copy)) ≡ refused net unmoved.NoProcessor
+second_missing net None f = refl
+second_missing net (Some copy) f = refl
 
-missing_by : (cluster : Cluster) (at other : ℕ) (found : Option (ℕ × ℕ)) (done : Log → Log → LineDone) (first second : Bool)
-    → nat_lt at (length cluster.copies) ≡ first → nat_lt other (length cluster.copies) ≡ second
-    → found ≡ cond (first && second) (Some (at, other)) None → found ≡ None
-    → at_copy cluster (slice_get cluster.copies at) (λ copy. at_copy cluster (slice_get cluster.copies other) (done copy)) ≡ refused cluster refusal.NoProcessor
-missing_by cluster at other found done false second e f is none = rw (slice_get_past cluster.copies at (ltb-false at (length cluster.copies) e)) refl
-missing_by cluster at other found done true false e f is none =
-    rw (slice_get_past cluster.copies other (ltb-false other (length cluster.copies) f)) (second_missing cluster (slice_get cluster.copies at) done)
-missing_by cluster at other found done true true e f is none = cc
+missing_by : (net : Net) (into from : ℕ) (found : Option (ℕ × ℕ)) (first second : Bool)
+    → nat_lt into (length net.copies) ≡ first → nat_lt from (length net.copies) ≡ second
+    → found ≡ cond (first && second) (Some (into, from)) None → found ≡ None
+    → event_done net (event.Join into from) Enough ≡ refused net unmoved.NoProcessor
+missing_by net into from found false second e f is none = rw (slice_get_past net.copies into (ltb-false into (length net.copies) e)) refl
+missing_by net into from found true false e f is none =
+    rw (slice_get_past net.copies from (ltb-false from (length net.copies) f)) (second_missing net (slice_get net.copies into) (joined net Enough into from))
+missing_by net into from found true true e f is none = cc
 
 -- two processors of which one is not there
-pub no_processors : (cluster : Cluster) (at other : ℕ) (found : Option (ℕ × ℕ)) (done : Log → Log → LineDone) → 0 < length cluster.copies
-    → found ≡ cond (nat_lt at (length cluster.copies) && nat_lt other (length cluster.copies)) (Some (at, other)) None → found ≡ None
-    → at_processors cluster at other done ≡ Ok (refused cluster refusal.NoProcessor)
-no_processors cluster at other found done some is none =
-    let yes : nat_lt 0 (length cluster.copies) ≡ true = lt-ltb 0 (length cluster.copies) some in
-    rw yes (ap (λ (d : LineDone). let r : Result LineDone LineFault = Ok d in r)
-    (missing_by cluster at other found done (nat_lt at (length cluster.copies)) (nat_lt other (length cluster.copies)) refl refl is none))
+pub no_processors : (c : Cluster) (into from : ℕ) (found : Option (ℕ × ℕ)) → 0 < length c.net.copies
+    → found ≡ cond (nat_lt into (length c.net.copies) && nat_lt from (length c.net.copies)) (Some (into, from)) None → found ≡ None
+    → happened c (event.Join into from) ≡ Ok (record { reply = Refused refusal.NoProcessor; cluster = c })
+no_processors c into from found some is none =
+    rw (lt-ltb 0 (length c.net.copies) some) (ap (λ (d : Done). let r : Result LineDone LineFault = Ok (line_done c (Happens (event.Join into from) Enough) d) in r)
+    (missing_by c.net into from found (nat_lt into (length c.net.copies)) (nat_lt from (length c.net.copies)) refl refl is none))
 
-answer_told : (cluster : Cluster) (text : List ℕ) (result : Result Answer TurnFault) → AnswersText text result → Does result cluster (Ok (answered cluster text))
-answer_told cluster text (Ok reply) told = rw told refl
-answer_told cluster text (Err f) told = rw told tt
+answer_told : (c : Cluster) (text : List ℕ) (result : Result Answer TurnFault) → AnswersText text result → Does result c (Ok (record { reply = Answered text; cluster = c }))
+answer_told c text (Ok reply) told = rw told refl
+answer_told c text (Err f) told = rw told tt
 
-merge_same_by : (cluster : Cluster) (at : ℕ) (copy : Log) (result : Result Answer TurnFault) → slice_get cluster.copies at ≡ Some copy → AnswersText (taken_text 0) result
-    → Does result (with_heard cluster at true) (at_processors cluster at at (merged cluster at at))
-merge_same_by cluster at copy result there told =
-    let within = slice_get_within cluster.copies at copy there in
-    let is : copy ≡ get_or cluster.copies at copy = sym (get_or_from_slice_get cluster.copies at copy copy there) in
-    let done : at_processors cluster at at (merged cluster at at) ≡ Ok (answered (with_heard cluster at true) (taken_text 0)) =
-    at_processors_there cluster at at copy copy (merged cluster at at) within within is is ∙ rw (eq-eqb at at refl) refl in
-    rw done (answer_told (with_heard cluster at true) (taken_text 0) result told)
+merge_same_by : (c : Cluster) (at : ℕ) (copy : Log) (result : Result Answer TurnFault) → slice_get c.net.copies at ≡ Some copy → AnswersText (taken_text 0) result
+    → Does result (record { net = c.net; accepted = heard c.accepted at true }) (happened c (event.Join at at))
+merge_same_by c at copy result there told =
+    let after : Cluster = record { net = c.net; accepted = heard c.accepted at true } in
+    let done : happened c (event.Join at at) ≡ Ok (record { reply = Answered (taken_text 0); cluster = after }) = rw (some_copy c.net.copies at copy there, there, eq-eqb at at refl) refl in
+    rw done (answer_told after (taken_text 0) result told)
 
 -- a copy that takes all of itself
-pub merge_same : (cluster : Cluster) (into from : ℕ) (result : Result Answer TurnFault) → into < length cluster.copies → into ≡ from → AnswersText (taken_text 0) result
-    → Does result (with_heard cluster into true) (at_processors cluster into from (merged cluster into from))
-merge_same cluster into from result within e told = elim (slice_get_cases cluster.copies into).1 [
-  | inl found ↦ rw (← e) (merge_same_by cluster into found.0 result found.2 told)
+pub merge_same : (c : Cluster) (into from : ℕ) (result : Result Answer TurnFault) → into < length c.net.copies → into ≡ from → AnswersText (taken_text 0) result
+    → Does result (record { net = c.net; accepted = heard c.accepted into true }) (happened c (event.Join into from))
+merge_same c into from result within e told = elim (slice_get_cases c.net.copies into).1 [
+  | inl found ↦ rw (← e) (merge_same_by c into found.0 result found.2 told)
   | inr past ↦ absurd (omega (arith, past.0))
 ]
 
 -- a copy that was given all that another one holds
-pub merge_told : (cluster : Cluster) (into from : ℕ) (copies : List Log) (taken : Result ℕ TakeFault) (result : Result Answer TurnFault)
-    → into ≢ from → Merges cluster.copies into from taken copies → IsTakeTold taken result
-    → Does result (with_heard (record cluster { copies = copies }) into (is_ok taken))
-    (at_processors cluster into from (merged cluster into from))
-merge_told cluster into from copies taken result apart merges told =
+pub merge_told : (c : Cluster) (into from : ℕ) (copies : List Log) (taken : Result ℕ TakeFault) (result : Result Answer TurnFault)
+    → into ≢ from → Merges c.net.copies into from taken copies → IsTakeTold taken result
+    → Does result (record { net = record { copies = copies; messages = c.net.messages }; accepted = heard c.accepted into (is_ok taken) }) (happened c (event.Join into from))
+merge_told c into from copies taken result apart merges told =
     let one = merges.one in
     let other = merges.other in
-    let is : one ≡ get_or cluster.copies into one = sym (get_or_from_slice_get cluster.copies into one one merges.there) in
-    let other_is : other ≡ get_or cluster.copies from other = sym (get_or_from_slice_get cluster.copies from other other merges.other_there) in
-    let within = slice_get_within cluster.copies into one merges.there in
-    let other_within = slice_get_within cluster.copies from other merges.other_there in
+    let some = some_copy c.net.copies into one merges.there in
     let differ : (into == from) ≡ false = grind (arith, nat_tests) in
-    let done : at_processors cluster into from (merged cluster into from) ≡ Ok (take_done cluster into one (take_outcome one.ops other.ops)) =
-    at_processors_there cluster into from one other (merged cluster into from) within other_within is other_is ∙ rw differ refl in
-    rw (done, merges.kept) (taken_told cluster into one merges.after other.ops (take_outcome one.ops other.ops) taken result is merges.takes told)
+    let done : happened c (event.Join into from) ≡ Ok (line_done c (Happens (event.Join into from) Enough) (taken_at c.net Enough into other.ops one)) =
+    rw (some, merges.there, merges.other_there, differ) refl in
+    rw (done, merges.kept) (taken_told c (Happens (event.Join into from) Enough) into one merges.after other.ops (take_outcome one.ops other.ops) taken result merges.there refl (take_cases other.ops (take_outcome one.ops other.ops) taken one merges.after merges.takes) told)

@@ -9,23 +9,22 @@ use mapdb_replica::{GiveFault, merge_among};
 
 impl Cluster {
     ghost use Rattle.std.specs.Prelude.{◌≡◌, ◌<◌, ◌&&◌, IfOk, IfSome, OnOk, OnErr, Err, Some};
-    ghost use Rattle.std.specs.Prelude.{None, length, nat_lt, slice_get, if◌then◌else◌};
-    ghost use Rattle.mapdb_script.specs.Cluster.{at_processor, at_processors, covers_answer};
-    ghost use Rattle.mapdb_script.specs.Cluster.{delivered, merged, same_answer, send_done};
+    ghost use Rattle.std.specs.Prelude.{None, length, nat_lt, if◌then◌else◌};
+    ghost use Rattle.mapdb_cluster.specs.declared.events.Event.TheVariants as event;
+    ghost use Rattle.mapdb_script.specs.Cluster.{compared, covers_answer, happened, same_answer};
     ghost use Rattle.mapdb_script.specs.States.{Does, cluster_of};
-    ghost use Rattle.mapdb_replica.specs.Giving.{given};
 
     /// The places of two processors' copies, if the cluster has both.
     fn places(&self, at: u8, other: u8) -> Result<Option<(usize, usize)>, LineFault>
         ensures there { IfOk result (λ found. IfSome found (λ i. (i.0 ≡ at)
-            × (i.0 < length (cluster_of self.now).copies)
-            × (i.1 ≡ other) × (i.1 < length (cluster_of self.now).copies))) }
+            × (i.0 < length (cluster_of self.now).net.copies)
+            × (i.1 ≡ other) × (i.1 < length (cluster_of self.now).net.copies))) }
         ensures found { IfOk result (λ found. found
-            ≡ (if nat_lt at (length (cluster_of self.now).copies)
-            && nat_lt other (length (cluster_of self.now).copies) then Some (at, other)
+            ≡ (if nat_lt at (length (cluster_of self.now).net.copies)
+            && nat_lt other (length (cluster_of self.now).net.copies) then Some (at, other)
             else None)) }
-        ensures some { OnOk result (0 < length (cluster_of self.now).copies) }
-        ensures none { OnErr result ((length (cluster_of self.now).copies ≡ 0)
+        ensures some { OnOk result (0 < length (cluster_of self.now).net.copies) }
+        ensures none { OnErr result ((length (cluster_of self.now).net.copies ≡ 0)
             × (result ≡ Err LineFault.NoProcessors)) }
     {
         let Some(at) = self.place(at)? else {
@@ -40,8 +39,8 @@ impl Cluster {
     /// Sends a message with the operations of a processor's copy, from the mark `first` on and up
     /// to before the mark `end`.
     pub(crate) fn send(&mut self, at: u8, first: u32, end: u32) -> Result<Reply, TurnFault>
-        ensures { Does result (cluster_of self.new) (at_processor (cluster_of self.old) at
-            (λ copy. send_done (cluster_of self.old) (given copy.ops first end))) }
+        ensures { Does result (cluster_of self.new)
+            (happened (cluster_of self.old) (event.Send at first end)) }
     {
         let Some(at) = self.place(at)? else {
             return Ok(Reply::Refused(Refusal::NoProcessor));
@@ -58,9 +57,8 @@ impl Cluster {
 
     /// Brings a message to a processor, whose copy takes its operations.
     pub(crate) fn deliver(&mut self, message: u32, at: u8) -> Result<Reply, TurnFault>
-        ensures { Does result (cluster_of self.new) (at_processor (cluster_of self.old) at
-            (delivered (cluster_of self.old) at
-            (slice_get (cluster_of self.old).messages message))) }
+        ensures { Does result (cluster_of self.new)
+            (happened (cluster_of self.old) (event.Deliver message at)) }
     {
         let Some(at) = self.place(at)? else {
             return Ok(Reply::Refused(Refusal::NoProcessor));
@@ -76,8 +74,7 @@ impl Cluster {
     /// Has a processor's copy take all that another one's holds, in its order of arrival.
     pub(crate) fn merge(&mut self, into: u8, from: u8) -> Result<Reply, TurnFault>
         ensures { Does result (cluster_of self.new)
-            (at_processors (cluster_of self.old) into from
-            (merged (cluster_of self.old) into from)) }
+            (happened (cluster_of self.old) (event.Join into from)) }
     {
         let Some((into, from)) = self.places(into, from)? else {
             return Ok(Reply::Refused(Refusal::NoProcessor));
@@ -94,7 +91,7 @@ impl Cluster {
     /// Asks whether the copies of two processors hold the same.
     pub(crate) fn same(&self, at: u8, other: u8) -> Result<Reply, TurnFault>
         ensures { Does result (cluster_of self.now)
-            (at_processors (cluster_of self.now) at other (same_answer (cluster_of self.now))) }
+            (compared (cluster_of self.now) at other same_answer) }
     {
         let Some((at, other)) = self.places(at, other)? else {
             return Ok(Reply::Refused(Refusal::NoProcessor));
@@ -106,7 +103,7 @@ impl Cluster {
     /// Asks whether a processor's copy holds all that another one's holds.
     pub(crate) fn covers(&self, at: u8, other: u8) -> Result<Reply, TurnFault>
         ensures { Does result (cluster_of self.now)
-            (at_processors (cluster_of self.now) at other (covers_answer (cluster_of self.now))) }
+            (compared (cluster_of self.now) at other covers_answer) }
     {
         let Some((at, other)) = self.places(at, other)? else {
             return Ok(Reply::Refused(Refusal::NoProcessor));

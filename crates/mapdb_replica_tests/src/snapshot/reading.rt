@@ -15,10 +15,12 @@ fn expect_operations(rt: &impl Abort, alloc: Global, text: &[u8], wanted: &[Op])
     }
 }
 
+/// A row of each kind of a text from before spaces had versions.
+const WITHOUT_VERSIONS: &str = "{ \"version\": 1, \"records\": [[1, 0, 2, 64, 14, 3, 4, 16, 5]],\n \
+    \"ended\": [9], \"cuts\": [[1, 0, 65, 12, 2]] }";
+
 #[test]
 fn rows_of_each_kind(rt: HostRuntime) -> Result<(), Fail> {
-    let text = "{ \"version\": 1, \"records\": [[1, 0, 2, 64, 14, 3, 4, 16, 5]],\n \"ended\": [9], \
-        \"cuts\": [[1, 0, 65, 12, 2]] }";
     let id = RecordId {
         number: 1,
         processor: 0,
@@ -40,7 +42,7 @@ fn rows_of_each_kind(rt: HostRuntime) -> Result<(), Fail> {
         rights: Rights::from_bits(2).ok_or("a set of rights")?,
     });
     let wanted = [born, cut, Op::Closed(Space::first(9))];
-    expect_operations(&rt, rt.alloc(), text.as_bytes(), &wanted);
+    expect_operations(&rt, rt.alloc(), WITHOUT_VERSIONS.as_bytes(), &wanted);
     Ok(())
 }
 

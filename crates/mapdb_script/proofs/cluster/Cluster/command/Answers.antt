@@ -1,13 +1,13 @@
 use Rattle.std.proofs.Common.{refl}
-use Rattle.mapdb_script.specs.Cluster.{commanded}
 use Rattle.mapdb_script.specs.States.{cluster_of}
-use Rattle.mapdb_script.proofs.ClusterLemmas.{command_accepted, command_refused, refused_nowhere}
+use Rattle.mapdb_script.proofs.ClusterLemmas.{at_nowhere, command_accepted, command_nowhere, command_refused}
 use Rattle.mapdb_script.proofs.cluster.Cluster.command.Goals as goal
 
 pub returns-in_default : goal.returns-in_default
 returns-in_default c =
-    refused_nowhere (cluster_of c.args.self.now) c.args.at (commanded (cluster_of c.args.self.now) c.args.at c.args.command.now)
-    _ c.in_ok-at.field-0 c.in_ok-at.ensures.none c.in_ok-at.ensures.some refl c.in_default.is
+    let cluster = cluster_of c.args.self.now in
+    command_nowhere cluster c.args.at c.args.command.now
+    (at_nowhere cluster.net.copies c.args.at _ c.in_ok-at.field-0 c.in_ok-at.ensures.none c.in_ok-at.ensures.some refl c.in_default.is)
 
 pub returns-in-Err : goal.returns-in-Err
 returns-in-Err c =
