@@ -17,7 +17,7 @@ use Rattle.mapdb_snapshot.specs.declared.faults.SnapshotFault.{SnapshotFault}
 use Rattle.mapdb_cluster.specs.Net.{Done, Net, at_copy, event_done, joined, refused, take_done, take_refused, taken_at, with_copy}
 use Rattle.mapdb_cluster.specs.Run.{Happens, Loads, Move}
 use Rattle.mapdb_cluster.specs.declared.events.Event.TheVariants as event
-use Rattle.mapdb_cluster.specs.declared.events.Refusal.TheVariants as unmoved
+use Rattle.mapdb_cluster.specs.declared.events.Refusal.TheVariants as move_refusal
 use Rattle.mapdb_cluster.proofs.StepTells.{with_same}
 use Rattle.mapdb_script.specs.Accepting.{heard}
 use Rattle.mapdb_script.specs.Cluster.{Answered, Cluster, LineDone, Refused, accepting, happened, line_done, loaded}
@@ -37,12 +37,12 @@ some_copy copies at copy there =
 
 module _ (c : Cluster) (move : Move) where
   -- a refusal is told as it is, or as a want of memory
-  told_as : (why fault : TakeFault) (result : Result Answer TurnFault) → (fault ≡ why) ⊎ (fault ≡ take.Memory 0) → IsToldAs (unmoved.Take fault) result
-      → Does result c (Ok (line_done c move (refused c.net (unmoved.Take why))))
-  told_as why fault result (inl e) told = refused_told c move (unmoved.Take why) result (rw e at told)
+  told_as : (why fault : TakeFault) (result : Result Answer TurnFault) → (fault ≡ why) ⊎ (fault ≡ take.Memory 0) → IsToldAs (move_refusal.Take fault) result
+      → Does result c (Ok (line_done c move (refused c.net (move_refusal.Take why))))
+  told_as why fault result (inl e) told = refused_told c move (move_refusal.Take why) result (rw e at told)
   told_as why fault result (inr e) told = let wanted = rw e at told in rw wanted tt
 
-  refusal_told : (why fault : TakeFault) (result : Result Answer TurnFault) → IsRefusedAs why fault → IsToldAs (unmoved.Take fault) result
+  refusal_told : (why fault : TakeFault) (result : Result Answer TurnFault) → IsRefusedAs why fault → IsToldAs (move_refusal.Take fault) result
       → Does result c (Ok (line_done c move (take_refused c.net Enough why)))
   refusal_told (take.Bad place what) fault result same told = told_as (take.Bad place what) fault result (inl same) told
   refusal_told why fault result same told = told_as why fault result same told
@@ -95,14 +95,14 @@ load_fault c at said f within e = elim (slice_get_cases c.net.copies at).1 [
 ]
 
 -- the second of two processors is not there
-second_missing : (net : Net) (first : Option Log) (f : Log → Log → Done) → at_copy net first (λ copy. at_copy net None (f copy)) ≡ refused net unmoved.NoProcessor
+second_missing : (net : Net) (first : Option Log) (f : Log → Log → Done) → at_copy net first (λ copy. at_copy net None (f copy)) ≡ refused net move_refusal.NoProcessor
 second_missing net None f = refl
 second_missing net (Some copy) f = refl
 
 missing_by : (net : Net) (into from : ℕ) (found : Option (ℕ × ℕ)) (first second : Bool)
     → nat_lt into (length net.copies) ≡ first → nat_lt from (length net.copies) ≡ second
     → found ≡ cond (first && second) (Some (into, from)) None → found ≡ None
-    → event_done net (event.Join into from) Enough ≡ refused net unmoved.NoProcessor
+    → event_done net (event.Join into from) Enough ≡ refused net move_refusal.NoProcessor
 missing_by net into from found false second e f is none = rw (slice_get_past net.copies into (ltb-false into (length net.copies) e)) refl
 missing_by net into from found true false e f is none =
     rw (slice_get_past net.copies from (ltb-false from (length net.copies) f)) (second_missing net (slice_get net.copies into) (joined net Enough into from))
