@@ -7,6 +7,7 @@ from driver.scripts import Script
 CHAIN = 65536
 LONGEST_LINE = 8388608
 MOST_LINES = 1000000
+PAGES = 1 << 36
 
 
 def load(cuts: Iterable = (), ended: Iterable = (), records: Iterable = ()) -> str:
@@ -36,6 +37,11 @@ def full_copy() -> Script:
         (load(cuts=[[0, 0, 0, 12, 4]], ended=ends), "taken 0")])
 
 
+def row(space: int, page: int, count: int, frame: int, rights: str) -> str:
+    """A row of a table, as the line `table` replies it."""
+    return "row %d %05x %d %05x:%s" % (space, page, count, frame, rights)
+
+
 def many_spaces() -> Script:
     """A page of memory in 3,000 spaces, and the table of them."""
     pairs = [("processors 1", "")]
@@ -43,8 +49,8 @@ def many_spaces() -> Script:
         ("map 0 0 10000/12:rwx 0 %d 20000/12" % space, "records %d.0" % space)
         for space in range(1, 3001)
     ]
-    table = ["table 3001", "row 0 00000 68719476736 00000:rwx"]
-    table += ["row %d 00020 1 00010:rwx" % space for space in range(1, 3001)]
+    table = ["table 3001", row(0, 0, PAGES, 0, "rwx")]
+    table += [row(space, 0x20, 1, 0x10, "rwx") for space in range(1, 3001)]
     pairs.append(("table 0", "\n".join(table)))
     pairs.append(("served 0 3000 20000", "served 00010:rwx"))
     pairs.append(("served 0 3000 21000", "served none"))
@@ -147,7 +153,7 @@ def copy_filled() -> Script:
 
 def chain_at_the_last_page() -> Script:
     """The deepest chain at the last page, each record in a space of its own but two."""
-    page = (1 << 36) - 1
+    page = PAGES - 1
     records = ((parent + 1, parent % 65535 + 1, page, parent) for parent in range(CHAIN))
     return script_of("deepest_chain_at_the_last_page", [
         ("processors 1", ""),
@@ -165,14 +171,14 @@ def many_commands() -> Script:
     """Pages that are mapped, each to itself, of which every other one loses the right to write; the
     table and the tree of them; and a Map and an Unmap of all of them."""
     pairs = [("processors 1", "")]
-    table = ["table %d" % (MANY + 1), "row 0 00000 68719476736 00000:rwx"]
+    table = ["table %d" % (MANY + 1), row(0, 0, PAGES, 0, "rwx")]
     for page in range(1, MANY + 1):
         pairs.append(("map 0 0 %x000/12:rwx 0 1 %x000/12" % (page, page), "records %d.0" % page))
         rights = "rwx"
         if page % 2 == 0:
             pairs.append(("unmap 0 1 %x000/12:-w- flush" % page, "revocations 1"))
             rights = "r-x"
-        table.append("row 1 %05x 1 %05x:%s" % (page, page, rights))
+        table.append(row(1, page, 1, page, rights))
     return script_of("many_commands", pairs + [
         ("table 0", "\n".join(table)),
         ("tree 1 4b2000", "tree 004b2:r-x"),
@@ -214,8 +220,8 @@ def pages_in_orders(count: int) -> Script:
     pairs += [("save %d" % processor, "snapshot " + run) for processor in range(3)]
     return script_of("pages_in_orders", pairs + [
         ("same 0 1", "same yes"), ("same 1 2", "same yes"), ("table 0", "\n".join([
-            "table 2", "row 0 00000 %d 00000:r-x" % count,
-            "row 0 %05x %d %05x:rwx" % (count, (1 << 36) - count, count)]))])
+            "table 2", row(0, 0, count, 0, "r-x"),
+            row(0, count, PAGES - count, count, "rwx")]))])
 
 
 def full_copies() -> list[Script]:
