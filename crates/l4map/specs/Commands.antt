@@ -6,7 +6,7 @@ use Rattle.std.specs.Str.{bytes_eq}
 use Rattle.clap.specs.Words.{App, Kinds, Row, Rule, Shape, Text, first_of, new_rule}
 use Rattle.clap.specs.Words.{with_subcommand, fault_of, subcommand_of}
 use Rattle.clap.specs.Simple.{new_shape}
-use Rattle.mapdb_exchange.specs.declared.links.TheConstants.{MOST_CAPACITY}
+use Rattle.mapdb_exchange.specs.declared.limits.TheConstants.{MOST_CAPACITY}
 use Rattle.mapdb_facts.specs.declared.names.Space.{Space}
 use Rattle.mapdb_fpage.specs.Bounds.{page_bytes}
 use Rattle.mapdb_lines.specs.declared.fault.LineFault.{LineFault}

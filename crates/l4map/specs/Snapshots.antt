@@ -3,7 +3,7 @@ use Rattle.std.specs.Prelude.{◌≡◌, ◌⊎◌, ◌↔◌, ℕ, ◌<◌, Boo
 use Rattle.std.specs.Prelude.{Ok, Err, codes}
 use Rattle.mapdb_lines.specs.Fronts.{BeginsWith}
 use Rattle.mapdb_lines.specs.Limits.{line_limit}
-use Rattle.mapdb_lines.specs.declared.fault.ScriptFault.TheVariants as script
+use Rattle.mapdb_script.specs.declared.faults.ScriptFault.TheVariants as script
 use Rattle.mapdb_picture.specs.Loading.{explained, pictured}
 use Rattle.mapdb_picture.specs.declared.faults.LoadFault.{LoadFault}
 use Rattle.mapdb_picture.specs.declared.faults.LoadFault.TheVariants.{Memory, Snapshot, Take}
@@ -21,12 +21,12 @@ use Rattle.l4map.specs.declared.snapshots.TellFault.{TellFault}
 use Rattle.l4map.specs.declared.snapshots.TellFault.TheVariants.{Load, Read, TooLong, Write}
 
 -- what is told of a text
-abbrev pub told_of : Asked → List ℕ → Result (List ℕ) LoadFault
-told_of Picture bytes = pictured bytes
-told_of (Page space page) bytes = explained bytes space page
+abbrev pub answer_told : Asked → List ℕ → Result (List ℕ) LoadFault
+answer_told Picture bytes = pictured bytes
+answer_told (Page space page) bytes = explained bytes space page
 
-abbrev pub wants_memory : TellFault
-wants_memory = Load Memory
+abbrev pub tell_out_of_memory : TellFault
+tell_out_of_memory = Load Memory
 
 -- why not all was read, of which this was read
 abbrev pub IsUnread : TellFault → List ℕ → Type 0
@@ -35,7 +35,7 @@ IsUnread Write input = ⊥
 IsUnread TooLong input = line_limit < length input
 IsUnread (Load fault) input = fault ≡ Memory
 
--- What is written of a text: all of it, or a front of it where the writer failed.
+-- What is written of a text: all of it, or a prefix of it where the writer failed.
 abbrev pub IsFront : Result (Unit {0}) TellFault → List ℕ → List ℕ → Type 0
 IsFront (Ok done) whole front = front ≡ whole
 IsFront (Err Write) whole front = BeginsWith whole front
@@ -46,13 +46,13 @@ IsFront (Err (Load fault)) whole front = ⊥
 -- What was written for an input of which this was read; `Over` says that the reader is over.
 -- Nothing is written where the input is too long, or is no snapshot that a copy can hold.
 abbrev pub TellsSnapshot : Asked → Result (Unit {0}) TellFault → List ℕ → List ℕ → Type 0 → Type 0
-TellsSnapshot asked (Ok done) input text Over = Over × (told_of asked input ≡ Ok text)
+TellsSnapshot asked (Ok done) input text Over = Over × (answer_told asked input ≡ Ok text)
 TellsSnapshot asked (Err Read) input text Over = text ≡ []
 TellsSnapshot asked (Err Write) input text Over = Over
-    × ((whole : List ℕ) × (told_of asked input ≡ Ok whole) × BeginsWith whole text)
+    × ((whole : List ℕ) × (answer_told asked input ≡ Ok whole) × BeginsWith whole text)
 TellsSnapshot asked (Err TooLong) input text Over = (text ≡ []) × (line_limit < length input)
 TellsSnapshot asked (Err (Load fault)) input text Over =
-    (text ≡ []) × ((fault ≡ Memory) ⊎ (Over × (told_of asked input ≡ Err fault)))
+    (text ≡ []) × ((fault ≡ Memory) ⊎ (Over × (answer_told asked input ≡ Err fault)))
 
 -- The reader or the writer is blamed exactly where that one has failed.
 abbrev pub BlamesSnapshot : Result (Unit {0}) TellFault → Bool → Bool → Type 0

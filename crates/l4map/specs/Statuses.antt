@@ -3,9 +3,9 @@ use Rattle.std.specs.Prelude.{◌≡◌, ◌⊎◌, ◌↔◌, ℕ, List, [], Bo
 use Rattle.std.specs.Prelude.{Err, codes}
 use Rattle.std.specs.Io.KnownBytes.{Appends}
 use Rattle.mapdb_lines.specs.Fronts.{BeginsWith}
-use Rattle.mapdb_lines.specs.declared.fault.Summary.{Summary}
-use Rattle.mapdb_lines.specs.declared.fault.ScriptFault.{ScriptFault}
-use Rattle.mapdb_lines.specs.declared.fault.ScriptFault.TheVariants as fault
+use Rattle.mapdb_script.specs.declared.faults.Summary.{Summary}
+use Rattle.mapdb_script.specs.declared.faults.ScriptFault.{ScriptFault}
+use Rattle.mapdb_script.specs.declared.faults.ScriptFault.TheVariants as fault
 
 -- the status of a run
 abbrev pub status_of : Result Summary ScriptFault → ℕ
@@ -15,7 +15,7 @@ status_of (Err fault.Read) = 3
 status_of (Err fault.Write) = 3
 status_of (Err fault.Memory) = 4
 
--- what is told where memory was wanted
+-- what is told where memory ran out
 abbrev pub memory_message : List ℕ
 memory_message = codes "l4map: out of memory\n"
 
@@ -38,15 +38,15 @@ IsTold old new has_failed message =
     (text : List ℕ) × Appends old new text × BeginsWith message text
     × (has_failed ≡ false → text ≡ message)
 
--- Memory was wanted, which is told.
-abbrev pub WantsMemory : ℕ → Option (List ℕ) → Option (List ℕ) → Bool → Type 0
-WantsMemory status old new has_failed = (status ≡ 4) × IsTold old new has_failed memory_message
+-- Memory ran out, which is told.
+abbrev pub TellsOutOfMemory : ℕ → Option (List ℕ) → Option (List ℕ) → Bool → Type 0
+TellsOutOfMemory status old new has_failed = (status ≡ 4) × IsTold old new has_failed memory_message
 
 -- Words were refused, which a text of clap's tells, or there was no memory to refuse them.
 abbrev pub Refuses : ℕ → Option (List ℕ) → Option (List ℕ) → Bool → Type 0
 Refuses status old new has_failed =
     ((status ≡ 2) × ((text : List ℕ) × IsTold old new has_failed text))
-    ⊎ WantsMemory status old new has_failed
+    ⊎ TellsOutOfMemory status old new has_failed
 
 -- A run blames the reader or the writer exactly where that one has failed.
 abbrev pub BlamesFailed : Result Summary ScriptFault → Bool → Bool → Type 0

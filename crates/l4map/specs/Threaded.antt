@@ -8,7 +8,7 @@ use Rattle.mapdb_exchange.specs.declared.faults.RunFault.{RunFault}
 use Rattle.mapdb_exchange.specs.declared.faults.RunFault.TheVariants as run
 use Rattle.mapdb_exchange.specs.declared.reports.Part.{Part}
 use Rattle.mapdb_lines.specs.Fronts.{BeginsWith}
-use Rattle.mapdb_lines.specs.declared.fault.ScriptFault.TheVariants as script
+use Rattle.mapdb_script.specs.declared.faults.ScriptFault.TheVariants as script
 use Rattle.mapdb_script.specs.Cluster.{reply_line}
 use Rattle.mapdb_script.specs.Reply.{same_text}
 use Rattle.mapdb_script.specs.Script.{fault_line}
@@ -42,25 +42,25 @@ abbrev pub IsFaultLine : List ℕ → List ℕ → Type 0
 IsFaultLine input text = (number : ℕ) × (f : _) × (scripts_of input ≡ Err (number, f))
     × (text ≡ fault_line number f)
 
--- the faults of a reader, of a writer, and of a want of memory
+-- the faults of a reader, of a writer, and of memory that ran out
 abbrev pub read_failed : ThreadsFault
 read_failed = Script script.Read
 
 abbrev pub write_failed : ThreadsFault
 write_failed = Script script.Write
 
-abbrev pub wants_memory : ThreadsFault
-wants_memory = Script script.Memory
+abbrev pub threads_out_of_memory : ThreadsFault
+threads_out_of_memory = Script script.Memory
 
--- What is written of a text: all of it; a front of it where the writer failed; or nothing where
--- memory was wanted.
-abbrev pub IsWritten : Result (Unit {0}) ThreadsFault → List ℕ → List ℕ → Type 0
-IsWritten (Ok done) whole front = front ≡ whole
-IsWritten (Err (Script script.Write)) whole front = BeginsWith whole front
-IsWritten (Err (Script script.Memory)) whole front = front ≡ []
-IsWritten (Err (Script script.Read)) whole front = ⊥
-IsWritten (Err (Script (script.Line number f))) whole front = ⊥
-IsWritten (Err (Run why)) whole front = ⊥
+-- What is written of a text: all of it; a prefix of it where the writer failed; or nothing where
+-- memory ran out.
+abbrev pub IsTextWritten : Result (Unit {0}) ThreadsFault → List ℕ → List ℕ → Type 0
+IsTextWritten (Ok done) whole front = front ≡ whole
+IsTextWritten (Err (Script script.Write)) whole front = BeginsWith whole front
+IsTextWritten (Err (Script script.Memory)) whole front = front ≡ []
+IsTextWritten (Err (Script script.Read)) whole front = ⊥
+IsTextWritten (Err (Script (script.Line number f))) whole front = ⊥
+IsTextWritten (Err (Run why)) whole front = ⊥
 
 -- What was written for an input of which this was read; `Over` says that the reader is over. At a
 -- faulty line the reader is over, or no further bytes would change the answer. Nothing is written

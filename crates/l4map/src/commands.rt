@@ -213,8 +213,8 @@ fn no_value(alloc: Global, matches: &ArgMatches<'_>) -> Result<Error, AllocError
 }
 
 /// What the words ask for. The error says why they are refused, by clap or for the value of an
-/// argument, which is also clap's answer to a call for help or the version; or that memory was
-/// wanted.
+/// argument, which is also clap's answer to a call for help or the version; or that memory ran
+/// out.
 pub fn job_of<'a, S: AsStr>(alloc: Global, words: &'a [S]) -> Result<Job, Error>
     ensures ok { IfOk result (λ job. job_in (map S.text words.now) ≡ Some job) }
     ensures err { IfErr result (λ e. (kind_of e ≡ ErrorKind.OutOfMemory)

@@ -3,8 +3,8 @@
 
 ghost use Rattle.std.specs.Prelude.{◌≡◌, ◌⊎◌, ℕ, List, Result, false};
 ghost use Rattle.std.specs.Io.KnownBytes.{Appends, Consumes};
-ghost use Rattle.mapdb_lines.specs.declared.fault.ScriptFault.{ScriptFault};
-ghost use Rattle.mapdb_lines.specs.declared.fault.Summary.{Summary};
+ghost use Rattle.mapdb_script.specs.declared.faults.ScriptFault.{ScriptFault};
+ghost use Rattle.mapdb_script.specs.declared.faults.Summary.{Summary};
 ghost use Rattle.mapdb_script.specs.Run.{HasEnded, TellsRun};
 ghost use Rattle.l4map.specs.Threaded.{BlamesThreads, TellsThreads, threads_message};
 ghost use Rattle.l4map.specs.Threaded.{threads_status};
@@ -50,8 +50,8 @@ fn words_of(environment: &(impl Env + Alloc<A = Global>)) -> io::Result<Vec<Stri
 }
 
 /// Does what the words of the command line ask for, and answers the status, as [`serve`] says.
-/// Where the words cannot be had, nothing is read or written, and the status is 4 where memory was
-/// wanted, else 2, since one is no UTF-8. Which words there are is the environment's. It waits only
+/// Where the words cannot be had, nothing is read or written, and the status is 4 where memory ran
+/// out, else 2, since one is no UTF-8. Which words there are is the environment's. It waits only
 /// for `threads`.
 pub fn start<
     T: AllocGlobal + Threads + Wait + Sync,

@@ -15,7 +15,7 @@ use mapdb_picture::LoadFault;
 use mapdb_replica::TakeFault;
 use mapdb_script::{ScriptFault, Sink, SnapshotFault, Summary, write_all};
 
-/// Told where memory was wanted.
+/// Told where memory ran out.
 pub const OUT_OF_MEMORY: &[u8] = b"l4map: out of memory\n";
 
 /// Told where a word of the command line is no UTF-8.

@@ -13,7 +13,7 @@ ghost use Rattle.l4map.specs.Snapshots.{BlamesSnapshot, TellsSnapshot, snapshot_
 ghost use Rattle.l4map.specs.Snapshots.{snapshot_status};
 ghost use Rattle.l4map.specs.declared.snapshots.Asked.{Asked};
 ghost use Rattle.l4map.specs.declared.snapshots.TellFault.{TellFault};
-ghost use Rattle.l4map.specs.Statuses.{BlamesFailed, IsTold, Refuses, WantsMemory, message_of};
+ghost use Rattle.l4map.specs.Statuses.{BlamesFailed, IsTold, Refuses, TellsOutOfMemory, message_of};
 ghost use Rattle.l4map.specs.Statuses.{status_of, words_message};
 
 use crate::commands::{Job, job_of};
@@ -45,9 +45,9 @@ fn status(outcome: &Result<Summary, ScriptFault>) -> u8
     }
 }
 
-/// Tells that memory was wanted, and answers the status.
-fn want_memory<E: Sink>(errors: &mut E) -> u8
-    ensures { WantsMemory result (E.written errors.old) (E.written errors.new)
+/// Tells that memory ran out, and answers the status.
+fn tell_out_of_memory_to<E: Sink>(errors: &mut E) -> u8
+    ensures { TellsOutOfMemory result (E.written errors.old) (E.written errors.new)
         (E.has_failed errors.new) }
 {
     tell(errors, OUT_OF_MEMORY);
@@ -57,27 +57,29 @@ fn want_memory<E: Sink>(errors: &mut E) -> u8
 /// Tells why clap refuses the words, or the help that they call for, and answers the status.
 fn refuse<E: Sink>(alloc: Global, error: &Error, errors: &mut E) -> u8
     ensures memory { kind_of error.now ≡ ErrorKind.OutOfMemory →
-        WantsMemory result (E.written errors.old) (E.written errors.new) (E.has_failed errors.new) }
+        TellsOutOfMemory result (E.written errors.old) (E.written errors.new)
+        (E.has_failed errors.new) }
     ensures told { Refuses result (E.written errors.old) (E.written errors.new)
         (E.has_failed errors.new) }
 {
     if let ErrorKind::OutOfMemory = error.kind() {
-        return want_memory(errors);
+        return tell_out_of_memory_to(errors);
     }
     match format!(in alloc; "{error}") {
         Ok(text) => {
             tell(errors, text.as_bytes());
             2
         }
-        Err(_) => want_memory(errors),
+        Err(_) => tell_out_of_memory_to(errors),
     }
 }
 
 /// Tells why the words of the command line could not be had, and answers the status: 4 where memory
-/// was wanted, else 2, since a word is no UTF-8.
+/// ran out, else 2, since a word is no UTF-8.
 pub fn refuse_unread<E: Sink>(kind: io::ErrorKind, errors: &mut E) -> u8
     ensures memory { kind ≡ io_kind.OutOfMemory →
-        WantsMemory result (E.written errors.old) (E.written errors.new) (E.has_failed errors.new) }
+        TellsOutOfMemory result (E.written errors.old) (E.written errors.new)
+        (E.has_failed errors.new) }
     ensures words { kind ≢ io_kind.OutOfMemory → (result ≡ 2)
         × IsTold (E.written errors.old) (E.written errors.new) (E.has_failed errors.new)
         words_message }
@@ -85,7 +87,7 @@ pub fn refuse_unread<E: Sink>(kind: io::ErrorKind, errors: &mut E) -> u8
         (E.has_failed errors.new) }
 {
     if let io::ErrorKind::OutOfMemory = kind {
-        return want_memory(errors);
+        return tell_out_of_memory_to(errors);
     }
     tell(errors, WORDS_ARE_NO_TEXT);
     2
@@ -193,7 +195,7 @@ fn serve_snapshot<R: Source, W: Sink, E: Sink>(
 /// Does what the words ask for, and answers the status: 0 where all is done, 1 where a line of the
 /// script is at fault, which the writer is told, where a run in threads gave no report, or where a
 /// snapshot is none, 2 where clap refuses the words or they call for help, 3 where the reader or
-/// the writer failed, and 4 where memory was wanted. The errors are told why, but of a faulty line;
+/// the writer failed, and 4 where memory ran out. The errors are told why, but of a faulty line;
 /// that they fail changes nothing. It waits only for `threads`.
 pub fn serve<T: AllocGlobal + Threads + Wait + Sync, S: AsStr, R: Source, W: Sink, E: Sink>(
     rt: &T,
@@ -208,7 +210,7 @@ pub fn serve<T: AllocGlobal + Threads + Wait + Sync, S: AsStr, R: Source, W: Sin
     // Where clap reads the words as `run`.
     ensures run { job_in (map S.text words.now) ≡ Some Job.Run →
         ((reader.new ≡ reader.old) × (writer.new ≡ writer.old)
-        × WantsMemory result (E.written errors.old) (E.written errors.new)
+        × TellsOutOfMemory result (E.written errors.old) (E.written errors.new)
         (E.has_failed errors.new))
         ⊎ ((outcome : Result Summary ScriptFault) × (input text : List ℕ)
         × Consumes (R.left reader.old) (R.left reader.new) input
@@ -222,7 +224,7 @@ pub fn serve<T: AllocGlobal + Threads + Wait + Sync, S: AsStr, R: Source, W: Sin
     // Where clap reads them as `threads`.
     ensures threads { (capacity : ℕ) → job_in (map S.text words.now) ≡ Some (Job.Threads capacity) →
         ((reader.new ≡ reader.old) × (writer.new ≡ writer.old)
-        × WantsMemory result (E.written errors.old) (E.written errors.new)
+        × TellsOutOfMemory result (E.written errors.old) (E.written errors.new)
         (E.has_failed errors.new))
         ⊎ ((outcome : Result (Unit {0}) ThreadsFault) × (input text : List ℕ)
         × Consumes (R.left reader.old) (R.left reader.new) input
@@ -237,7 +239,7 @@ pub fn serve<T: AllocGlobal + Threads + Wait + Sync, S: AsStr, R: Source, W: Sin
     // Where clap reads them as `picture` or `explain`.
     ensures tell { (asked : Asked) → job_in (map S.text words.now) ≡ Some (Job.Tell asked) →
         ((reader.new ≡ reader.old) × (writer.new ≡ writer.old)
-        × WantsMemory result (E.written errors.old) (E.written errors.new)
+        × TellsOutOfMemory result (E.written errors.old) (E.written errors.new)
         (E.has_failed errors.new))
         ⊎ ((outcome : Result (Unit {0}) TellFault) × (input text : List ℕ)
         × Consumes (R.left reader.old) (R.left reader.new) input

@@ -4,10 +4,11 @@ ghost use Rattle.std.specs.Prelude.{◌≡◌, ◌≤◌, ◌⊎◌, ℕ, List, 
 ghost use Rattle.std.specs.Prelude.{OnOk, string_bytes};
 ghost use Rattle.std.specs.Io.KnownBytes.{Appends, Consumes};
 ghost use Rattle.mapdb_script.specs.Run.{HasEnded};
-ghost use Rattle.l4map.specs.Snapshots.{BlamesSnapshot, IsFront, IsUnread, TellsSnapshot, told_of};
+ghost use Rattle.l4map.specs.Snapshots.{BlamesSnapshot, IsFront, IsUnread, TellsSnapshot};
+ghost use Rattle.l4map.specs.Snapshots.{answer_told};
 
 use mapdb_facts::Space;
-use mapdb_lines::{Failed, LINE_LIMIT, READ_AHEAD, Sink, Source, write_all};
+use mapdb_lines::{Failed, MOST_LINE_BYTES, READ_AHEAD, Sink, Source, write_all};
 use mapdb_picture::{LoadFault, snapshot_explanation, snapshot_picture};
 use std::alloc::{AllocError, Global};
 
@@ -30,21 +31,21 @@ pub enum Asked {
 pub enum TellFault {
     /// The reader failed.
     Read,
-    /// The writer failed. A front of the text may stand.
+    /// The writer failed. A prefix of the text may stand.
     Write,
     /// The reader has more bytes than a line of a script may have.
     TooLong,
-    /// What was read is no snapshot that a copy can hold, or memory was wanted.
+    /// What was read is no snapshot that a copy can hold, or memory ran out.
     Load(LoadFault),
 }
 
 impl From<AllocError> for TellFault {
     ghost use Rattle.std.specs.Prelude.{◌≡◌};
-    ghost use Rattle.l4map.specs.Snapshots.{wants_memory};
+    ghost use Rattle.l4map.specs.Snapshots.{tell_out_of_memory};
 
-    ghost from_gives = { λ _ fault. fault ≡ wants_memory };
+    ghost from_gives = { λ _ fault. fault ≡ tell_out_of_memory };
 
-    fn from(_wanted: AllocError) -> TellFault {
+    fn from(_refused: AllocError) -> TellFault {
         TellFault::Load(LoadFault::Memory)
     }
 }
@@ -83,7 +84,7 @@ fn read_all<R: Source>(alloc: Global, reader: &mut R) -> Result<Vec<u8>, TellFau
 {
     let mut piece = vec![in alloc; 0; READ_AHEAD]?;
     let mut input = Vec::new(alloc);
-    'pieces: while input.len() <= LINE_LIMIT {
+    'pieces: while input.len() <= MOST_LINE_BYTES {
         let count = reader.read(piece.as_mut_slice())?;
         if count == 0 {
             return Ok(input);
@@ -95,9 +96,9 @@ fn read_all<R: Source>(alloc: Global, reader: &mut R) -> Result<Vec<u8>, TellFau
 
 /// What is asked of a snapshot's text, or why nothing is told.
 fn told_text(alloc: Global, asked: Asked, bytes: &[u8]) -> Result<String, LoadFault>
-    ensures text { IfOk result (λ text. told_of asked bytes.now ≡ Ok (string_bytes text)) }
+    ensures text { IfOk result (λ text. answer_told asked bytes.now ≡ Ok (string_bytes text)) }
     ensures err { IfErr result (λ fault. (fault ≡ LoadFault.Memory)
-        ⊎ (told_of asked bytes.now ≡ Err fault)) }
+        ⊎ (answer_told asked bytes.now ≡ Err fault)) }
 {
     match asked {
         Asked::Picture => snapshot_picture(alloc, bytes),

@@ -8,13 +8,13 @@ ghost use Rattle.mapdb_facts.specs.State.{SameAtoms};
 ghost use Rattle.mapdb_script.specs.Cluster.{reply_line};
 ghost use Rattle.mapdb_script.specs.Run.{HasEnded};
 ghost use Rattle.mapdb_script.specs.Script.{fault_line};
-ghost use Rattle.l4map.specs.Threaded.{BlamesThreads, IsWritten, TellsThreads, processor_text};
-ghost use Rattle.l4map.specs.Threaded.{read_failed, report_text, write_failed};
+ghost use Rattle.l4map.specs.Threaded.{BlamesThreads, IsTextWritten, TellsThreads};
+ghost use Rattle.l4map.specs.Threaded.{processor_text, read_failed, report_text, write_failed};
 
 use mapdb_exchange::{Part, RunFault};
-use mapdb_lines::{LineFault, ScriptFault, Sink, Source, write_all};
+use mapdb_lines::{LineFault, Sink, Source, write_all};
 use mapdb_node::Open;
-use mapdb_script::{fault_text, thread_scripts};
+use mapdb_script::{ScriptFault, fault_text, thread_scripts};
 use std::alloc::{AllocError, Global};
 use std::sync::Wait;
 use std::thread::Threads;
@@ -22,7 +22,7 @@ use std::thread::Threads;
 /// Why a script in threads was not done.
 #[derive(Clone, Copy, Debug, PartialEq, Eq)]
 pub enum ThreadsFault {
-    /// A line is at fault, a stream failed, or memory was wanted.
+    /// A line is at fault, a stream failed, or memory ran out.
     Script(ScriptFault),
     /// The exchange gave no report.
     Run(RunFault),
@@ -30,11 +30,11 @@ pub enum ThreadsFault {
 
 impl From<AllocError> for ThreadsFault {
     ghost use Rattle.std.specs.Prelude.{◌≡◌};
-    ghost use Rattle.l4map.specs.Threaded.{wants_memory};
+    ghost use Rattle.l4map.specs.Threaded.{threads_out_of_memory};
 
-    ghost from_gives = { λ _ fault. fault ≡ wants_memory };
+    ghost from_gives = { λ _ fault. fault ≡ threads_out_of_memory };
 
-    fn from(_wanted: AllocError) -> ThreadsFault {
+    fn from(_refused: AllocError) -> ThreadsFault {
         ThreadsFault::Script(ScriptFault::Memory)
     }
 }
@@ -97,7 +97,7 @@ fn report_text(alloc: Global, parts: &[Part]) -> Result<String, AllocError>
 /// Writes a text.
 fn write_text<W: Sink>(writer: &mut W, text: &str) -> Result<(), ThreadsFault>
     ensures told { (front : List ℕ) × Appends (W.written writer.old) (W.written writer.new) front
-        × IsWritten result text.now front }
+        × IsTextWritten result text.now front }
     ensures write { result ≡ Err write_failed → W.has_failed writer.new ≡ true }
     ensures works { (result ≡ Err write_failed)
         ⊎ (W.has_failed writer.new ≡ W.has_failed writer.old) }
@@ -113,7 +113,7 @@ fn write_text<W: Sink>(writer: &mut W, text: &str) -> Result<(), ThreadsFault>
 fn write_report<W: Sink>(alloc: Global, parts: &[Part], writer: &mut W) -> Result<(), ThreadsFault>
     requires { HoldSame parts.now }
     ensures told { (front : List ℕ) × Appends (W.written writer.old) (W.written writer.new) front
-        × IsWritten result (report_text parts.now) front }
+        × IsTextWritten result (report_text parts.now) front }
     ensures write { result ≡ Err write_failed → W.has_failed writer.new ≡ true }
     ensures works { (result ≡ Err write_failed)
         ⊎ (W.has_failed writer.new ≡ W.has_failed writer.old) }
@@ -131,7 +131,7 @@ fn write_fault<W: Sink>(
     writer: &mut W,
 ) -> Result<(), ThreadsFault>
     ensures told { (front : List ℕ) × Appends (W.written writer.old) (W.written writer.new) front
-        × IsWritten result (fault_line number fault) front }
+        × IsTextWritten result (fault_line number fault) front }
     ensures write { result ≡ Err write_failed → W.has_failed writer.new ≡ true }
     ensures works { (result ≡ Err write_failed)
         ⊎ (W.has_failed writer.new ≡ W.has_failed writer.old) }

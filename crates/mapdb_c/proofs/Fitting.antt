@@ -1,5 +1,5 @@
 -- A list that is written place by place, and what is told of it.
-use Rattle.std.proofs.Common.{◌≡◌, refl, sym, subst, ap, inl, inr, ℕ, suc, zero, ◌≤◌, ◌<◌, ◌+◌, List, [], ◌∷◌, ◌++◌, drop, take, length, map, set, arith, get_or}
+use Rattle.std.proofs.Common.{◌≡◌, refl, sym, ap, inl, inr, ℕ, suc, zero, ◌≤◌, ◌<◌, ◌+◌, List, [], ◌∷◌, ◌++◌, drop, take, length, map, set, arith, get_or}
 use Rattle.std.proofs.lemmas.List.{length-map}
 use Rattle.mapdb_c.specs.Filling.{FitsArray}
 use Rattle.mapdb_c.specs.declared.statuses.Status.TheVariants as status

@@ -3,31 +3,30 @@ use Rattle.std.proofs.Common.{◌≡◌, refl, ap, sym, subst, inl, inr, ◌⊎�
 use Rattle.std.specs.Prelude.{ℕ, List, Result, Ok, Err}
 use Rattle.mapdb_facts.specs.declared.operations.Op.{Op}
 use Rattle.mapdb_replica.specs.Replica.{Log}
-use Rattle.mapdb_replica.specs.Taking.{take_outcome}
 use Rattle.mapdb_snapshot.specs.Reading.{snapshot_of}
 use Rattle.mapdb_snapshot.specs.declared.faults.SnapshotFault.{SnapshotFault}
 use Rattle.mapdb_snapshot.specs.declared.faults.SnapshotFault.TheVariants.{Memory}
-use Rattle.mapdb_c.specs.Loading.{LoadsAs, LoadsRead, snapshot_status}
+use Rattle.mapdb_c.specs.Loading.{LoadsAs, LoadsRead, text_status}
 use Rattle.mapdb_c.specs.Taking.{TakesAs, taken_with}
 use Rattle.mapdb_c.specs.declared.statuses.Status.{Status}
 use Rattle.mapdb_c.specs.declared.taking.Taken.{Taken}
 
 pub read_taken :
     (text : List ℕ) (batch : List Op) (told : Status) (taken : Taken) (old new : Log)
-    → snapshot_of text ≡ Ok batch → TakesAs batch (take_outcome old.ops batch) told taken old new
+    → snapshot_of text ≡ Ok batch → TakesAs batch told taken old new
     → LoadsAs text told taken old new
 read_taken text batch told taken old new is takes =
     subst (λ (read : Result (List Op) SnapshotFault). LoadsRead read told taken old new) (sym is) (inl takes)
 
 wanted : (read : Result (List Op) SnapshotFault) (why : SnapshotFault) (old : Log)
-    → why ≡ Memory → LoadsRead read (snapshot_status why) (taken_with 0) old old
-wanted (Ok batch) why old is = inr (ap snapshot_status is, refl, refl)
-wanted (Err other) why old is = inr (ap snapshot_status is, refl, refl)
+    → why ≡ Memory → LoadsRead read (text_status why) (taken_with 0) old old
+wanted (Ok batch) why old is = inr (ap text_status is, refl, refl)
+wanted (Err other) why old is = inr (ap text_status is, refl, refl)
 
 pub not_read :
     (text : List ℕ) (why : SnapshotFault) (old : Log)
-    → (why ≡ Memory) ⊎ (snapshot_of text ≡ Err why) → LoadsAs text (snapshot_status why) (taken_with 0) old old
+    → (why ≡ Memory) ⊎ (snapshot_of text ≡ Err why) → LoadsAs text (text_status why) (taken_with 0) old old
 not_read text why old (inl is) = wanted (snapshot_of text) why old is
 not_read text why old (inr is) =
-    subst (λ (read : Result (List Op) SnapshotFault). LoadsRead read (snapshot_status why) (taken_with 0) old old) (sym is)
+    subst (λ (read : Result (List Op) SnapshotFault). LoadsRead read (text_status why) (taken_with 0) old old) (sym is)
     (inl (refl, refl, refl))

@@ -11,7 +11,7 @@ FitsArray list told old new count =
     × (new ≡ list ++ drop (length list) old))
     ⊎ ((told ≡ status.NoRoom) × (count ≡ length list) × (length old < length list) × (new ≡ old))
 
--- or memory was wanted, and nothing is told
+-- or memory ran out, and nothing is told
 abbrev pub Fills : {A : Type 0} → List A → Status → List A → List A → ℕ → ℕ → Type 0
 Fills list told old new count_old count_new =
     FitsArray list told old new count_new ⊎ ((told ≡ status.Memory) × (count_new ≡ count_old)

@@ -1,13 +1,11 @@
 -- What a call that commands leaves and tells.
-use Rattle.std.specs.Prelude.{◌≡◌, ◌⊎◌, ℕ, ◌<◌, List, length, take, Option, Some, None, Result, Ok}
+use Rattle.std.specs.Prelude.{◌≡◌, ℕ, length, Option, Some, None, Result, Ok}
 use Rattle.std.specs.Prelude.{Err}
-use Rattle.mapdb_facts.specs.declared.operations.Op.{Op}
-use Rattle.mapdb_replica.specs.Commands.{command_outcome}
-use Rattle.mapdb_replica.specs.Replica.{Log, first_number, record_names, with_issued}
+use Rattle.mapdb_replica.specs.Commands.{Applies, command_outcome}
+use Rattle.mapdb_replica.specs.Replica.{Log, first_number}
 use Rattle.mapdb_replica.specs.declared.commands.Applied.{Applied}
 use Rattle.mapdb_replica.specs.declared.commands.Applied.TheVariants as applied
 use Rattle.mapdb_replica.specs.declared.commands.Command.{Command}
-use Rattle.mapdb_replica.specs.declared.commands.Command.TheVariants.{End, Map, Unmap}
 use Rattle.mapdb_replica.specs.declared.faults.IssueFault.{IssueFault}
 use Rattle.mapdb_replica.specs.declared.faults.IssueFault.TheVariants.{Full, Memory, NumbersSpent}
 use Rattle.mapdb_replica.specs.declared.faults.IssueFault.TheVariants.{RootSpace, SpaceEnded}
@@ -30,44 +28,37 @@ issued_with first count = record {
 }
 
 -- what is told of a refusal: the space that has ended, or how many operations stand
-abbrev pub refusal_told : IssueFault → Issued
-refusal_told (SpaceEnded space) = record { first = 0; count = 0; space = raw_space space }
-refusal_told RootSpace = issued_with 0 0
-refusal_told NumbersSpent = issued_with 0 0
-refusal_told Full = issued_with 0 0
-refusal_told (Memory issued) = issued_with 0 issued
+abbrev pub issue_fault_told : IssueFault → Issued
+issue_fault_told (SpaceEnded space) = record { first = 0; count = 0; space = raw_space space }
+issue_fault_told RootSpace = issued_with 0 0
+issue_fault_told NumbersSpent = issued_with 0 0
+issue_fault_told Full = issued_with 0 0
+issue_fault_told (Memory issued) = issued_with 0 issued
 
 -- What is told of a command that is done: of a Map the first record's number and how many there
 -- are, and else how many operations were issued.
-abbrev pub command_told : Command → List Op → Issued
-command_told (Map sender item receiver window) ops =
-    issued_with (first_number (record_names ops)) (length (record_names ops))
-command_told (Unmap space page rights flush) ops = issued_with 0 (length ops)
-command_told (End space) ops = issued_with 0 1
-
--- the same of what the copy answered
 abbrev pub applied_told : Applied → Issued
 applied_told (applied.Mapped names) = issued_with (first_number names.items) (length names.items)
 applied_told (applied.Revoked count) = issued_with 0 count
 applied_told (applied.Ended space) = issued_with 0 1
 
--- all operations of a command are issued
-abbrev pub AllIssued : Command → List Op → Status → Issued → Log → Log → Type 0
-AllIssued command ops told issued old new = (told ≡ status.Done)
-    × (issued ≡ command_told command ops) × (new ≡ with_issued old ops)
+-- a command's result is told by a status
+abbrev pub command_status : Result Applied IssueFault → Status
+command_status (Ok applied) = status.Done
+command_status (Err fault) = issue_status fault
 
--- memory was wanted: the first so many operations are issued, which are not all
-abbrev pub SomeIssued : List Op → Status → Issued → Log → Log → Type 0
-SomeIssued ops told issued old new =
-    (told ≡ status.Memory) × (issued ≡ issued_with 0 issued.count) × (issued.count < length ops)
-    × (new ≡ with_issued old (take issued.count ops))
+-- .. and by what was issued
+abbrev pub command_told : Result Applied IssueFault → Issued
+command_told (Ok applied) = applied_told applied
+command_told (Err fault) = issue_fault_told fault
 
--- what a command that has an outcome leaves and tells: a refusal changes nothing
-abbrev pub IssuesAs : Command → Result (List Op) IssueFault → Status → Issued → Log → Log → Type 0
-IssuesAs command (Err refusal) told issued old new =
-    (told ≡ issue_status refusal) × (issued ≡ refusal_told refusal) × (new ≡ old)
-IssuesAs command (Ok ops) told issued old new =
-    AllIssued command ops told issued old new ⊎ SomeIssued ops told issued old new
+-- What a command at a copy leaves and tells: the copy applies it, and C is told the result.
+pub record IssuesAs (command : Command) (told : Status) (issued : Issued) (old new : Log) : Type 0
+  where
+    pub result : Result Applied IssueFault
+    pub applies : Applies command (command_outcome old command) result old new
+    pub tells : told ≡ command_status result
+    pub counts : issued ≡ command_told result
 
 -- What a call does by what C gives as a command, at a handle that has a copy or none. What is no
 -- command is told, and then that there is no copy; either leaves all as it was.
@@ -79,5 +70,5 @@ IssuesFor command old told issued_old issued new =
     × ((given : Command) → command ≡ Ok given → old ≡ None
     → (told ≡ status_number status.NoCopy) × (issued ≡ issued_old) × (new ≡ None))
     × ((given : Command) (log after : Log) → command ≡ Ok given → old ≡ Some log → new ≡ Some after
-    → Tells told (λ answer. IssuesAs given (command_outcome log given) answer issued log after))
+    → Tells told (λ answer. IssuesAs given answer issued log after))
     × (new ≡ None → old ≡ None)

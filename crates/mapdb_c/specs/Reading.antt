@@ -22,18 +22,18 @@ abbrev pub operation_at : ℕ → RawOperation → Result Op Unread
 operation_at place raw = at_place place (operation_of raw)
 
 -- one operation, and then the others
-abbrev pub before : Result Op Unread → Result (List Op) Unread → Result (List Op) Unread
-before (Err unread) others = Err unread
-before (Ok op) (Err unread) = Err unread
-before (Ok op) (Ok ops) = Ok (op ∷ ops)
+abbrev pub read_before : Result Op Unread → Result (List Op) Unread → Result (List Op) Unread
+read_before (Err unread) others = Err unread
+read_before (Ok op) (Err unread) = Err unread
+read_before (Ok op) (Ok ops) = Ok (op ∷ ops)
 
 -- the operations of a batch from this place on
 abbrev pub operations_from : ℕ → List RawOperation → Result (List Op) Unread
 operations_from place [] = Ok []
 operations_from place (raw ∷ rest) =
-    before (operation_at place raw) (operations_from (place + 1) rest)
+    read_before (operation_at place raw) (operations_from (place + 1) rest)
 
 -- the others, behind those that were read
-abbrev pub behind : List Op → Result (List Op) Unread → Result (List Op) Unread
-behind ops (Ok others) = Ok (ops ++ others)
-behind ops (Err unread) = Err unread
+abbrev pub read_behind : List Op → Result (List Op) Unread → Result (List Op) Unread
+read_behind ops (Ok others) = Ok (ops ++ others)
+read_behind ops (Err unread) = Err unread

@@ -3,11 +3,10 @@
 ghost use Rattle.std.specs.Prelude.{◌≡◌};
 ghost use Rattle.std.specs.declared.option.Option.TheVariants.{None, Some};
 ghost use Rattle.std.specs.declared.result.Result.TheVariants.{Err, Ok};
-ghost use Rattle.mapdb_replica.specs.Commands.{command_outcome};
 ghost use Rattle.mapdb_replica.specs.Replica.{Log};
 ghost use Rattle.mapdb_replica.specs.declared.commands.Command.{Command};
 ghost use Rattle.mapdb_c.specs.Issuing.{IssuesAs, IssuesFor, applied_told, issued_with};
-ghost use Rattle.mapdb_c.specs.Issuing.{refusal_told};
+ghost use Rattle.mapdb_c.specs.Issuing.{issue_fault_told};
 ghost use Rattle.mapdb_c.specs.RawCommands.{end_command, map_command, unmap_command};
 ghost use Rattle.mapdb_c.specs.RawCommands.{word_map_command, word_unmap_command};
 
@@ -29,7 +28,7 @@ pub struct Issued {
     /// The number of the first record that a Map issued, 0 where there is none. The numbers rise by
     /// one from it, and the processor is the copy's.
     pub first: u64,
-    /// How many operations were issued. Where memory was wanted these stand, and are not all.
+    /// How many operations were issued. Where memory ran out these stand, and are not all.
     pub count: u64,
     /// Where a space has ended, the one that has: of two, the sender is looked at first.
     pub space: RawSpace,
@@ -47,8 +46,8 @@ fn issued_with(first: u64, count: u64) -> Issued
 }
 
 /// What is told of a refusal.
-fn refusal_told(fault: IssueFault) -> Issued
-    ensures { result ≡ refusal_told fault }
+fn issue_fault_told(fault: IssueFault) -> Issued
+    ensures { result ≡ issue_fault_told fault }
 {
     match fault {
         IssueFault::SpaceEnded(space) => Issued {
@@ -77,8 +76,7 @@ fn applied_told(applied: &Applied) -> Issued
 /// Does a command at a copy, and tells what became of it.
 #[tactic(auto, using(crate::proofs::Telling::all_done, crate::proofs::Telling::not_done))]
 fn issue_at(replica: &mut Replica, command: &Command, issued: &mut Issued) -> Status
-    ensures { IssuesAs command.now (command_outcome replica.old command.now)
-        result issued.new replica.old replica.new }
+    ensures { IssuesAs command.now result issued.new replica.old replica.new }
 {
     match replica.apply(command) {
         Ok(applied) => {
@@ -86,7 +84,7 @@ fn issue_at(replica: &mut Replica, command: &Command, issued: &mut Issued) -> St
             Status::Done
         }
         Err(fault) => {
-            *issued = refusal_told(fault);
+            *issued = issue_fault_told(fault);
             issue_status(fault)
         }
     }

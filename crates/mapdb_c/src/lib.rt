@@ -28,6 +28,7 @@ mod giving;
 mod handles;
 mod issuing;
 mod life;
+mod limits;
 mod loose;
 mod operations;
 mod raw_places;

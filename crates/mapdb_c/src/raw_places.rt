@@ -5,15 +5,10 @@ ghost use Rattle.mapdb_c.specs.RawPlaces.{fpage_of, optional_place, place_given,
 ghost use Rattle.mapdb_c.specs.RawPlaces.{rights_of, space_given, window_of};
 
 use crate::faults::place_status;
+use crate::limits::{RIGHTS_LIMIT, SPACE_LIMIT};
 use crate::statuses::Status;
 use mapdb_facts::Space;
 use mapdb_fpage::{Fpage, Rights, TOP_ORDER};
-
-/// The numbers of spaces lie below this.
-const SPACE_LIMIT: u32 = 1 << 16;
-
-/// Values of rights lie below this.
-const RIGHTS_LIMIT: u32 = 1 << 3;
 
 /// A space, 8 bytes.
 #[repr(C)]

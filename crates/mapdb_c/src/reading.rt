@@ -14,7 +14,7 @@ use std::alloc::{AllocFailed, Global};
 pub enum Unread {
     /// The one at this place of the batch is none, for this. It is the first.
     Bad(Status, usize),
-    /// Memory was wanted.
+    /// Memory ran out.
     Memory,
 }
 
@@ -36,7 +36,7 @@ impl<T: Drop> From<AllocFailed<T>> for Unread {
 
     ghost from_gives = { λ _ e. e ≡ Memory };
 
-    fn from(_wanted: AllocFailed<T>) -> Unread {
+    fn from(_refused: AllocFailed<T>) -> Unread {
         Unread::Memory
     }
 }
@@ -51,7 +51,7 @@ fn operation_at(raw: &RawOperation, place: usize) -> Result<Op, Unread>
     }
 }
 
-/// The operations that those of C's say, or the first that is none. Memory may be wanted in place
+/// The operations that those of C's say, or the first that is none. Memory may run out in place
 /// of either.
 pub fn operations_of(alloc: Global, raws: &[RawOperation]) -> Result<Vec<Op>, Unread>
     ensures read { IfOk result (λ ops. operations_from 0 raws.now ≡ Ok ops.items) }

@@ -5,7 +5,7 @@ ghost use Rattle.std.specs.declared.option.Option.TheVariants.{None, Some};
 ghost use Rattle.mapdb_replica.specs.Replica.{Log};
 ghost use Rattle.mapdb_snapshot.specs.Snapshot.{snapshot_text};
 ghost use Rattle.mapdb_c.specs.Filling.{Fills, FitsArray};
-ghost use Rattle.mapdb_c.specs.Loading.{LoadsAs, snapshot_status};
+ghost use Rattle.mapdb_c.specs.Loading.{LoadsAs, text_status};
 ghost use Rattle.mapdb_c.specs.StatusNumbers.{Tells, status_number};
 ghost use Rattle.mapdb_c.specs.Taking.{taken_with};
 ghost use Rattle.mapdb_c.specs.declared.statuses.Status.TheVariants as status;
@@ -19,8 +19,8 @@ use mapdb_snapshot::{SnapshotFault, snapshot_read, snapshot_text};
 use std::alloc::Global;
 
 /// The status of a text that is no snapshot.
-fn snapshot_status(fault: SnapshotFault) -> Status
-    ensures { result ≡ snapshot_status fault }
+fn text_status(fault: SnapshotFault) -> Status
+    ensures { result ≡ text_status fault }
 {
     match fault {
         SnapshotFault::NotJson => Status::NotJson,
@@ -97,7 +97,7 @@ fn load_at(alloc: Global, replica: &mut Replica, text: &[u8], taken: &mut Taken)
         Ok(batch) => take_at(replica, batch.as_slice(), taken),
         Err(why) => {
             *taken = taken_with(0);
-            snapshot_status(why)
+            text_status(why)
         }
     }
 }

@@ -10,7 +10,7 @@ pub enum Status {
     Done,
     /// The handle has no copy.
     NoCopy,
-    /// Memory was wanted. What stands is told where something does.
+    /// Memory ran out. What stands is told where something does.
     Memory,
     /// A processor of 64 or more.
     BadProcessor,

@@ -3,10 +3,9 @@
 ghost use Rattle.std.specs.Prelude.{◌≡◌};
 ghost use Rattle.std.specs.declared.option.Option.TheVariants.{None, Some};
 ghost use Rattle.mapdb_replica.specs.Replica.{Log};
-ghost use Rattle.mapdb_replica.specs.Taking.{take_outcome};
 ghost use Rattle.mapdb_c.specs.StatusNumbers.{Tells, status_number};
-ghost use Rattle.mapdb_c.specs.Taking.{TakesAs, TakesGiven, fault_told, part_taken, take_status};
-ghost use Rattle.mapdb_c.specs.Taking.{taken_with, unread_told};
+ghost use Rattle.mapdb_c.specs.Taking.{TakesAs, TakesGiven, part_taken, take_fault_told};
+ghost use Rattle.mapdb_c.specs.Taking.{take_status, taken_with, unread_told};
 ghost use Rattle.mapdb_c.specs.declared.statuses.Status.TheVariants as status;
 
 use crate::faults::op_status;
@@ -24,7 +23,7 @@ use std::alloc::Global;
 pub struct Taken {
     /// How many operations were new to the copy, and are held now.
     pub count: u64,
-    /// Of a bad operation its place in the batch, counted from 0; where memory was wanted, of how
+    /// Of a bad operation its place in the batch, counted from 0; where memory ran out, of how
     /// many first operations of the batch what is new stands, which are not all.
     pub place: u64,
     /// Of a clash the number of the name.
@@ -62,8 +61,8 @@ fn part_taken(place: u64) -> Taken
 }
 
 /// What is told of a batch that was not taken, or not all of it.
-fn fault_told(fault: TakeFault) -> Taken
-    ensures { result ≡ fault_told fault }
+fn take_fault_told(fault: TakeFault) -> Taken
+    ensures { result ≡ take_fault_told fault }
 {
     match fault {
         TakeFault::Bad(place, _) => part_taken(place as u64),
@@ -92,10 +91,9 @@ fn take_status(fault: TakeFault) -> Status
 }
 
 /// Takes a batch at a copy, and tells what became of it.
-#[tactic(auto, using(crate::proofs::TakingTold::batch_told))]
+#[tactic(auto, using(crate::proofs::TakingTold::taking_told))]
 pub fn take_at(replica: &mut Replica, batch: &[Op], taken: &mut Taken) -> Status
-    ensures { TakesAs batch.now (take_outcome replica.old.ops batch.now)
-        result taken.new replica.old replica.new }
+    ensures { TakesAs batch.now result taken.new replica.old replica.new }
 {
     match replica.take(batch) {
         Ok(count) => {
@@ -103,13 +101,13 @@ pub fn take_at(replica: &mut Replica, batch: &[Op], taken: &mut Taken) -> Status
             Status::Done
         }
         Err(fault) => {
-            *taken = fault_told(fault);
+            *taken = take_fault_told(fault);
             take_status(fault)
         }
     }
 }
 
-/// What is told where an operation of C's is none, or memory was wanted to read them.
+/// What is told where an operation of C's is none, or memory ran out to read them.
 fn unread_told(unread: Unread) -> Taken
     ensures { result ≡ unread_told unread }
 {

@@ -7,7 +7,7 @@ use Rattle.mapdb_replica.specs.Commands.{command_outcome}
 use Rattle.mapdb_replica.specs.Giving.{given}
 use Rattle.mapdb_replica.specs.Memory.{EndsAfter, Enough, Memory, lasting}
 use Rattle.mapdb_replica.specs.Replica.{Log, empty, first_number, record_names, with_issued}
-use Rattle.mapdb_replica.specs.Taking.{refusal_told, take_answer, take_left, take_outcome}
+use Rattle.mapdb_replica.specs.Taking.{take_refusal_told, take_answer, take_left, take_outcome}
 use Rattle.mapdb_replica.specs.declared.commands.Command.{Command}
 use Rattle.mapdb_replica.specs.declared.commands.Command.TheVariants.{End, Map, Unmap}
 use Rattle.mapdb_replica.specs.declared.faults.GiveFault.{GiveFault}
@@ -56,9 +56,8 @@ issue_reply (Map sender item receiver window) ops =
 issue_reply (Unmap space page rights flush) ops = Revoked (length ops)
 issue_reply (End space) ops = Ended
 
--- The event's one free choice is how far memory lasts.
-
--- the reply to a command that issued these, unless memory ended
+-- The reply to a command: of all that it issued, or that memory ended behind so many. How far
+-- memory lasts is the one thing that the event and the net leave open.
 abbrev pub issued_reply : Memory → Command → List Op → Reply
 issued_reply Enough command ops = issue_reply command ops
 issued_reply (EndsAfter count) command ops = Refused (refusal.Issue (issue.Memory count))
@@ -80,7 +79,7 @@ taken_reply (Err fault) = Refused (refusal.Take fault)
 
 -- a refused batch changes nothing
 abbrev pub take_refused : Net → Memory → TakeFault → Done
-take_refused net memory fault = refused net (refusal.Take (refusal_told memory fault))
+take_refused net memory fault = refused net (refusal.Take (take_refusal_told memory fault))
 
 -- what taking a batch comes to: all that is new stands, or what is new of that for which memory
 -- lasts

@@ -18,7 +18,7 @@ use Rattle.mapdb_cluster.specs.declared.events.Refusal.{Refusal}
 use Rattle.mapdb_cluster.specs.declared.events.Refusal.TheVariants as refusal
 use Rattle.mapdb_cluster.specs.declared.events.Reply.{Reply}
 use Rattle.mapdb_cluster.specs.declared.events.Reply.TheVariants.{Ended, Issued, Refused, Revoked}
-use Rattle.mapdb_cluster.specs.declared.events.Reply.TheVariants.{Sent}
+use Rattle.mapdb_cluster.specs.declared.events.Reply.TheVariants.{Sent, Taken}
 use Rattle.mapdb_cluster.specs.declared.runs.RunFault.{RunFault}
 use Rattle.mapdb_cluster.specs.declared.runs.RunFault.TheVariants as run
 
@@ -33,16 +33,20 @@ refusal_memory refusal.Memory = EndsAfter 0
 
 -- how far memory lasted, as a reply tells
 abbrev pub memory_told : Reply → Memory
+memory_told (Issued first count) = Enough
+memory_told (Revoked count) = Enough
+memory_told Ended = Enough
+memory_told (Taken count) = Enough
+memory_told (Sent message count) = Enough
 memory_told (Refused why) = refusal_memory why
-memory_told done = Enough
 
--- so many operations are not all that an event takes, where it is not refused
+-- so many operations are fewer than the event would have issued or taken, if it does either
 abbrev pub IsPartOfEvent : ℕ → Reply → List Op → Type 0
 IsPartOfEvent count (Sent message sent) ops = Unit {0}
 IsPartOfEvent count (Refused why) ops = Unit {0}
 IsPartOfEvent count reply ops = count < length ops
 
--- memory that ends, lasts for a part of what is done where it is enough
+-- where memory ends, it does so before the last operation of what is done with enough of it
 abbrev pub LastsForPart : Memory → Done → Type 0
 LastsForPart Enough all = Unit {0}
 LastsForPart (EndsAfter count) all = IsPartOfEvent count all.reply all.took

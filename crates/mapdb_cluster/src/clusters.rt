@@ -37,7 +37,7 @@ impl Model for Cluster {
 }
 
 /// Copies that hold nothing, of processors from 0 on. There are at most 64 processors.
-#[tactic(auto, using(crate::proofs::NewCopies::one_copy_more))]
+#[tactic(auto, using(crate::proofs::Steps::NewCopies::one_copy_more))]
 pub fn new_copies(alloc: Global, count: u8) -> Result<Vec<Replica>, AllocError>
     requires { count ≤ PROCESSOR_LIMIT }
     ensures { IfOk result (λ copies. copies.items ≡ map empty (range_with_len 0 count)) }
@@ -144,7 +144,7 @@ impl Cluster {
         join(self.copies.as_mut_slice(), into, from)
     }
 
-    /// Does one event, and answers the reply. A want of memory is a reply too, which tells what
+    /// Does one event, and answers the reply. That memory ran out is a reply too, which tells what
     /// stands.
     pub fn step(&mut self, event: &Event) -> Reply
         ensures steps { Steps self.old event.now result self.new }

@@ -31,7 +31,7 @@ pub enum Reply {
     Sent { message: u64, count: u32 },
     /// So many operations were new to the copy that took them.
     Taken(u32),
-    /// The event did nothing, or where memory was wanted not all.
+    /// The event did nothing, or where memory ran out not all.
     Refused(Refusal),
 }
 
@@ -48,6 +48,6 @@ pub enum Refusal {
     Issue(IssueFault),
     /// The operations were not taken, or not all.
     Take(TakeFault),
-    /// Memory was wanted for the message. Nothing is changed.
+    /// Memory ran out for the message. Nothing is changed.
     Memory,
 }

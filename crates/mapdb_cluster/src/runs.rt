@@ -7,7 +7,7 @@ use mapdb_replica::{IssueFault, TakeFault};
 /// Why a run of a cluster stopped.
 #[derive(Clone, Copy, Debug, PartialEq, Eq)]
 pub enum RunFault {
-    /// Memory was wanted. The first `done` events stand, and the next one not at all, or in the
+    /// Memory ran out. The first `done` events stand, and the next one not at all, or in the
     /// part that its own fault allows.
     Memory { done: usize },
 }
@@ -17,8 +17,8 @@ impl Reply {
     ghost use Rattle.mapdb_replica.specs.Memory.{ends};
     ghost use Rattle.mapdb_cluster.specs.Steps.{memory_told};
 
-    /// Whether memory was wanted, so that the event does not stand, or not as a whole.
-    pub fn is_want_of_memory(&self) -> bool
+    /// Whether memory ran out, so that the event does not stand, or not as a whole.
+    pub fn ran_out_of_memory(&self) -> bool
         ensures { result ≡ ends (memory_told self.now) }
     {
         match self {
@@ -37,7 +37,7 @@ impl Cluster {
     ghost use Rattle.mapdb_cluster.specs.Steps.{StopsAt};
 
     /// Does events, one after the other, and answers their replies in order. It goes on from where
-    /// the cluster is, and stops at the first want of memory.
+    /// the cluster is, and stops at the first time that memory runs out.
     pub fn run(&mut self, events: &[Event]) -> Result<Vec<Reply>, RunFault>
         ensures replies { IfOk result (λ answer. answer.items
             ≡ replies self.old (all_done events.now)) }
@@ -51,7 +51,7 @@ impl Cluster {
                 return Err(RunFault::Memory { done });
             }
             let reply = self.step(event);
-            if reply.is_want_of_memory() {
+            if reply.ran_out_of_memory() {
                 return Err(RunFault::Memory { done });
             }
             replies.push_reserved(reply);

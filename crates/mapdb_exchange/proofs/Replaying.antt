@@ -5,15 +5,15 @@ use Rattle.std.specs.List.{list_all}
 use Rattle.std.proofs.lemmas.Bool.{and_parts}
 use Rattle.mapdb_facts.specs.State.{Atom, HasAtom, state_of}
 use Rattle.mapdb_facts.specs.declared.operations.Op.{Op}
-use Rattle.mapdb_facts.proofs.Joins.{atom_append, atom_left, atom_right}
+use Rattle.mapdb_facts.proofs.States.Joins.{atom_append, atom_left, atom_right}
 use Rattle.mapdb_replica.specs.Commands.{command_outcome}
 use Rattle.mapdb_replica.specs.Memory.{Memory, issue_memory, lasting}
 use Rattle.mapdb_replica.specs.Replica.{Log, issue_left, news, with_issued}
 use Rattle.mapdb_replica.specs.Taking.{Takes, take_outcome, take_refusal, taken_unless, with_taken}
 use Rattle.mapdb_replica.specs.declared.faults.IssueFault.{IssueFault}
 use Rattle.mapdb_replica.specs.declared.faults.TakeFault.{TakeFault}
-use Rattle.mapdb_replica.proofs.CallCases.{take_cases}
-use Rattle.mapdb_replica.proofs.NewsAtoms.{news_give}
+use Rattle.mapdb_replica.proofs.Calls.CallCases.{take_cases}
+use Rattle.mapdb_replica.proofs.News.NewsAtoms.{news_give}
 use Rattle.mapdb_node.specs.Journals.{Replays}
 use Rattle.mapdb_node.specs.Steps.{NodeSteps, taken_reply}
 use Rattle.mapdb_node.specs.declared.events.Entry.{Entry}

@@ -48,7 +48,7 @@ fault_turn (Node why) = 2 + node_turn why
 fault_turn Gate = 6
 fault_turn Link = 7
 
--- a fault of a run in which no worker is at work: memory was wanted, or a node gave no seat, or its
+-- a fault of a run in which no worker is at work: memory ran out, or a node gave no seat, or its
 -- seats do not close it
 abbrev pub IsSetupFault : WorkFault → Type 0
 IsSetupFault fault = (fault ≡ Memory) ⊎ (fault ≡ Node Seats)

@@ -56,11 +56,11 @@ was_taken (reply.Own op) = false
 was_taken (reply.IssueRefused why) = false
 was_taken (reply.TakeRefused why) = false
 
--- memory was wanted inside the event
-abbrev pub wanted_memory : NodeReply → Bool
-wanted_memory (reply.IssueRefused (issue.Memory count)) = true
-wanted_memory (reply.TakeRefused (take.Memory count)) = true
-wanted_memory answer = false
+-- memory ran out inside the event
+abbrev pub ran_out_of_memory : NodeReply → Bool
+ran_out_of_memory (reply.IssueRefused (issue.Memory count)) = true
+ran_out_of_memory (reply.TakeRefused (take.Memory count)) = true
+ran_out_of_memory answer = false
 
 -- where the event takes an operation, it does so at one of these seats, and the operation is held
 abbrev pub is_heard : List ℕ → ℕ → NodeEvent → NodeReply → Bool
@@ -78,9 +78,13 @@ NoneTwice (seat ∷ seats) = (list_any (λ s. s == seat) seats ≡ false) × Non
 abbrev pub hearer_place : ℕ → ℕ → ℕ
 hearer_place k q = if nat_lt q k then q + 1 else q
 
--- The part of processor k: its script at its first seat; and at each other seat, in order, the own
--- operations of the processor that this seat hears. Nothing else is taken, nothing taken was
--- refused, and nowhere was memory wanted.
+-- what processor k, of these seats, took from processor q: all that the seat took that hears q
+abbrev pub taken_from : List ℕ → ℕ → ℕ → List Entry → List Op
+taken_from seats k q entries = takes_of (slice_index seats (hearer_place k q)) entries
+
+-- The part of processor k: its script at its first seat; and from each other processor, in order,
+-- that one's own operations. Nothing else is taken, nothing taken was refused, and nowhere did
+-- memory run out.
 pub record IsPartOfReport (parts : List Part) (k : ℕ) (script : List Command) (p : Part)
     : Type 0 where
   pub number : p.processor ≡ k
@@ -90,11 +94,11 @@ pub record IsPartOfReport (parts : List Part) (k : ℕ) (script : List Command) 
   pub apart : NoneTwice p.seats.items
   pub issues : issues_of p.history.entries ≡ map (at_seat (slice_index p.seats.items 0)) script
   pub takes : (q : ℕ) (d : Part) → q < length parts → q ≢ k
-      → takes_of (slice_index p.seats.items (hearer_place k q)) p.history.entries
+      → taken_from p.seats.items k q p.history.entries
       ≡ (slice_index_or parts q d).history.copy.own
   pub only : list_all (λ e. is_heard (drop 1 p.seats.items) e.seat e.event e.reply)
       p.history.entries ≡ true
-  pub memory : list_all (λ e. not (wanted_memory e.reply)) p.history.entries ≡ true
+  pub memory : list_all (λ e. not (ran_out_of_memory e.reply)) p.history.entries ≡ true
   pub replays : Replays (empty p.history.copy.processor) p.history.entries p.history.copy
 
 -- one part for each script, in order

@@ -8,23 +8,20 @@ ghost use Rattle.mapdb_exchange.specs.Reports.{AreParts, HoldSame};
 
 use crate::faults::{NodeFault, RunFault, WorkFault};
 use crate::issuing::Issuing;
-use crate::links::MOST_CAPACITY;
+use crate::limits::{MOST_CAPACITY, MOST_SCRIPTS};
 use crate::networks::{Inbox, inboxes_of, outboxes_of};
 use crate::pool::{run_all, seats_of};
 use crate::reports::{Part, Report, agrees, hold_same};
 use crate::workers::{Job, Post, Receiving};
-use mapdb_node::{Gate, Node, Seat};
+use mapdb_node::{Gate, History, Node, Seat};
 use mapdb_replica::Command;
 use std::alloc::{AllocError, Global};
 use std::sync::Wait;
 use std::thread::Threads;
 use std::vec::IntoIter;
 
-/// An exchange has at most this many processors.
-pub const MOST_PROCESSORS: usize = 4;
-
 /// Runs each script at a processor of its own, all at the same time, over links that hold
-/// `capacity` messages each. Each call passes the gate. Once all have ended, each copy holds what
+/// `capacity` messages each. Each command passes the gate. Once all have ended, each copy holds what
 /// all processors issued. It waits.
 ///
 /// A command that is refused for another cause than memory is a reply in the history, and no fault
@@ -56,7 +53,7 @@ pub fn run<R: Threads + Wait + Sync, G: Gate + Sync>(
 fn is_count(count: usize, capacity: usize) -> bool
     ensures { IsTrue result ↔ IsCount count capacity }
 {
-    1 <= count && count <= MOST_PROCESSORS && 1 <= capacity && capacity <= MOST_CAPACITY
+    1 <= count && count <= MOST_SCRIPTS && 1 <= capacity && capacity <= MOST_CAPACITY
 }
 
 /// Runs so many scripts as an exchange may have.
@@ -82,7 +79,7 @@ fn run_scripts<R: Threads + Wait + Sync, G: Gate + Sync>(
 
 /// The nodes of so many processors.
 fn nodes_of(alloc: Global, count: u8) -> Result<Vec<Node>, AllocError>
-    requires { count ≤ MOST_PROCESSORS }
+    requires { count ≤ MOST_SCRIPTS }
     ensures { IfOk result (λ nodes. length nodes.items ≡ count) }
 {
     let mut nodes = Vec::new(alloc);
@@ -100,7 +97,7 @@ fn posts_of<'a, R: Wait>(
     scripts: &'a [Vec<Command>],
     capacity: usize,
 ) -> Result<Vec<Post<'a>>, WorkFault>
-    requires count { length nodes.now ≤ MOST_PROCESSORS }
+    requires count { length nodes.now ≤ MOST_SCRIPTS }
     requires some { 0 < capacity }
     requires most { capacity ≤ MOST_CAPACITY }
     ensures fault { IfErr result IsSetupFault }
@@ -206,13 +203,22 @@ fn part_of(alloc: Global, node: Node, commands: usize, seats: Vec<Seat>) -> Resu
     for seat in &seats {
         numbers.push(seat.number())?;
     }
+    let history = closed(node, seats)?;
+    Ok(Part {
+        processor: history.copy().processor(),
+        commands,
+        seats: numbers,
+        history,
+    })
+}
+
+/// The history of a node that is closed with its seats.
+fn closed(node: Node, seats: Vec<Seat>) -> Result<History, WorkFault>
+    ensures processor { IfOk result (λ history. history.copy.processor ≡ node) }
+    ensures fault { IfErr result (λ fault. fault ≡ WorkFault.Node NodeFault.Seats) }
+{
     match node.close(seats) {
-        Ok(history) => Ok(Part {
-            processor: history.copy().processor(),
-            commands,
-            seats: numbers,
-            history,
-        }),
+        Ok(history) => Ok(history),
         Err(_) => Err(WorkFault::Node(NodeFault::Seats)),
     }
 }

@@ -27,7 +27,7 @@ pub enum RunFault {
     /// There is no script, or there are more than 4; or the capacity is 0, or more than 1,024. No
     /// thread was started.
     BadCount,
-    /// Memory was wanted, by the exchange or inside an event.
+    /// Memory ran out, by the exchange or inside an event.
     Memory,
     /// A thread could not be started.
     NoThread,

@@ -21,6 +21,7 @@
 mod exchange;
 mod faults;
 mod issuing;
+mod limits;
 mod links;
 mod messages;
 mod networks;
@@ -31,8 +32,9 @@ mod rules;
 mod senders;
 mod workers;
 
-pub use exchange::{MOST_PROCESSORS, run};
+pub use exchange::run;
 pub use faults::{NodeFault, RunFault};
-pub use links::{Incoming, MOST_CAPACITY, NextFault, Outgoing, PutFault, link, settle};
+pub use limits::{MOST_CAPACITY, MOST_SCRIPTS};
+pub use links::{Incoming, NextFault, Outgoing, PutFault, link, settle};
 pub use messages::{Batch, Message, Ops};
 pub use reports::{Part, Report};

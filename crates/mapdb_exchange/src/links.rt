@@ -6,15 +6,13 @@ ghost use Rattle.mapdb_exchange.specs.Faults.{is_after_fin, put_message};
 ghost use Rattle.mapdb_exchange.specs.Links.{has_fin};
 ghost use Rattle.mapdb_exchange.specs.declared.messages.Message.{Message};
 
+use crate::limits::MOST_CAPACITY;
 use crate::messages::Message;
 use crate::rules::{Compares, Ends, InOrder, PassView, Puts, Receives};
 use crossbeam_channel::{Pass, RuledReceiver, RuledSender, bounded_with};
 use std::alloc::{AllocError, Global};
 use std::marker::Model;
 use std::sync::Wait;
-
-/// A link holds at most this many messages.
-pub const MOST_CAPACITY: usize = 1_024;
 
 /// The end of a link that puts. Contracts see which link it is of, and what was put.
 #[derive(Drop)]

@@ -2,7 +2,8 @@
 
 ghost use Rattle.std.specs.Prelude.{◌<◌, ◌≤◌};
 
-use crate::links::{MOST_CAPACITY, link};
+use crate::limits::MOST_CAPACITY;
+use crate::links::link;
 use crate::receivers::BatchReceiver;
 use crate::senders::BatchSender;
 use std::alloc::{AllocError, Global};

@@ -1,12 +1,12 @@
 //! What an exchange reports, and the comparison of the histories of all processors.
 
 ghost use Rattle.std.specs.Prelude.{◌≡◌, ◌<◌, ◌≤◌, ◌≢◌, ◌∷◌, ◌+◌, ◌↔◌, ℕ, true, not, IsTrue};
-ghost use Rattle.std.specs.Prelude.{length, map, drop, slice_index, slice_index_or, ◌==◌};
+ghost use Rattle.std.specs.Prelude.{length, map, drop, slice_index_or, ◌==◌};
 ghost use Rattle.std.specs.List.{list_all, list_any};
 ghost use Rattle.mapdb_exchange.specs.Reports.{NoneTwice, AreParts, HoldSame, IsPartOfReport};
 ghost use Rattle.mapdb_exchange.specs.Reports.{at_seat};
-ghost use Rattle.mapdb_exchange.specs.Reports.{is_heard, issues_of, hearer_place, takes_of};
-ghost use Rattle.mapdb_exchange.specs.Reports.{wanted_memory};
+ghost use Rattle.mapdb_exchange.specs.Reports.{is_heard, issues_of, taken_from, takes_of};
+ghost use Rattle.mapdb_exchange.specs.Reports.{ran_out_of_memory};
 
 use mapdb_facts::Op;
 use mapdb_node::{Entry, History, NodeEvent, NodeReply};
@@ -136,8 +136,7 @@ fn is_same_event(event: &NodeEvent, other: &NodeEvent) -> bool
 fn hears_all(parts: &[Part], k: usize, seats: &[u32], entries: &[Entry]) -> bool
     requires { length seats.now ≡ length parts.now }
     ensures { IsTrue result → ((q : ℕ) (d : _) → q < length parts.now → q ≢ k
-        → takes_of (slice_index seats.now (hearer_place k q)) entries.now
-        ≡ (slice_index_or parts.now q d).history.copy.own) }
+        → taken_from seats.now k q entries.now ≡ (slice_index_or parts.now q d).history.copy.own) }
 {
     for q in 0..parts.len() {
         if q != k {
@@ -213,16 +212,16 @@ fn is_heard(entry: &Entry, seats: &[u32]) -> bool
     }
 }
 
-/// Whether memory was wanted inside none of the events.
+/// Whether no event ran out of memory.
 fn had_memory(entries: &[Entry]) -> bool
-    ensures { result ≡ list_all (λ e. not (wanted_memory e.reply)) entries.now }
+    ensures { result ≡ list_all (λ e. not (ran_out_of_memory e.reply)) entries.now }
 {
-    entries.iter().all(|entry| !wanted_memory(&entry.reply))
+    entries.iter().all(|entry| !ran_out_of_memory(&entry.reply))
 }
 
-/// Whether memory was wanted inside the event.
-fn wanted_memory(reply: &NodeReply) -> bool
-    ensures { result ≡ wanted_memory reply.now }
+/// Whether memory ran out inside the event.
+fn ran_out_of_memory(reply: &NodeReply) -> bool
+    ensures { result ≡ ran_out_of_memory reply.now }
 {
     matches!(
         reply,

@@ -23,7 +23,6 @@ fn places_have_pages(rt: HostRuntime) -> Result<(), Fail> {
     assert_eq!(rt; (large.order(), large.change_after(0x10)), (14, 0x14));
     assert_eq!(rt; (large.holds(0x13), large.holds(0x14)), (true, false));
     assert_eq!(rt; small.meet(&large), Some(small));
-    assert!(rt; large < small && place(0x10000, 12)? < large);
     assert_eq!(rt; Fpage::new(0, 48), Ok(Fpage::complete()));
     Ok(())
 }

@@ -1,5 +1,5 @@
 -- What lists of starts have, told by the bits of their pages.
-use Rattle.std.specs.Prelude.{◌≡◌, ◌↔◌, ℕ, Bool, true, false, ◌&&◌, ◌||◌, ◌≤◌, ◌<◌, ◌+◌, ◌==◌, IsTrue, nat_le, nat_lt, List, [], ◌∷◌, length, refl}
+use Rattle.std.specs.Prelude.{◌≡◌, ◌↔◌, ℕ, Bool, true, false, Result, Ok, Err, OnErr, ◌&&◌, ◌||◌, ◌≤◌, ◌<◌, ◌+◌, ◌==◌, IsTrue, nat_le, nat_lt, List, [], ◌∷◌, length, refl}
 use Rattle.std.proofs.Common.{sym, ◌∙◌, ap, subst, arith, inl, inr}
 use Rattle.std.proofs.lemmas.Bool.{and_parts, cases_lt, false_from_ne_true, le-ltb, le-leb, leb-true, lt-ltb, ltb-true, eq-eqb, eqb-true, or_left}
 use Rattle.mapdb_join.specs.Atoms.{HasNone, Includes, IsBetween, IsUnion}
@@ -109,6 +109,15 @@ new_told t a mine first count bits e r h =
     let k = subst (λ l. HasOver first (first + count) bits mine ↔ HasOver first (first + count) bits l) e (λ x. x, λ x. x) in
     let n = over_region a first count bits r in
     (λ x y. h.0 x (k.1 (n.1 y)), λ x. h.1 (λ y. x (n.0 (k.0 y))))
+
+-- what a refusal says of the list, of the runs
+pub lacks_told : {E : Type 0} (r : Result Bool E) (a mine : List Start) (first count bits : ℕ) → mine ≡ a → IsRuns a
+    → (HasOver first (first + count) bits mine → ⊥) → OnErr r (HasRegion a first count bits → ⊥)
+lacks_told (Ok new) a mine first count bits e r h = tt
+lacks_told (Err refused) a mine first count bits e r h = λ has.
+    let k = subst (λ l. HasOver first (first + count) bits mine ↔ HasOver first (first + count) bits l) e (λ x. x, λ x. x) in
+    let n = over_region a first count bits r in
+    h (k.1 (n.1 has))
 
 pub has_told : (t : Bool) (a mine : List Start) (first count bits : ℕ) → mine ≡ a → IsRuns a →
     IsTrue t ↔ HasOver first (first + count) bits mine → IsTrue t ↔ HasRegion a first count bits

@@ -68,7 +68,7 @@ pub record ChangesAlone {K V A : Type 0} (cmp : K → K → Ordering) (has : V �
   pub others : (q : K) (x : A) → is_at (cmp k) q ≡ false →
       has_under cmp has new (q, x) ≡ has_under cmp has old (q, x)
 
--- what a merge that wanted memory leaves: its keys lie between the old ones and those of both,
+-- what a merge that ran out of memory leaves: its keys lie between the old ones and those of both,
 -- and the value under a new key is whole
 pub record IsPartMerged {K V A : Type 0} (cmp : K → K → Ordering) (has : V → A → Bool)
     (old other new : List (K × V)) : Type 0 where

@@ -11,8 +11,8 @@ TellsMemory (Memory refused) = Unit {0}
 
 module _ {S A P : Type 0} (has : S → A → Bool) (excludes : A → A → Type 0)
     (is_spot : S → S → P → Type 0) where
-  -- a clash leaves all as it was; want of memory leaves something between the old atoms and the
-  -- union
+  -- a clash leaves all as it was; running out of memory leaves something between the old atoms and
+  -- the union
   abbrev pub FaultLeaves : S → S → S → MergeFault P → Type 0
   FaultLeaves old other new (Clash spot) =
       Clashes has excludes old other × is_spot old other spot × (new ≡ old)

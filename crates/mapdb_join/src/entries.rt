@@ -1,6 +1,6 @@
 //! The entries of a map: one of them lies in the map itself, and more in a tree.
 ghost use Rattle.std.specs.Prelude.{◌≡◌, [], ◌∷◌, false, None, Some, IsSome, IfSome, OnOk, OnErr};
-ghost use Rattle.std.specs.Prelude.{IfOk, IfErr, MatchOption, length};
+ghost use Rattle.std.specs.Prelude.{◌≢◌, IfOk, IfErr, IsErr, MatchOption, length};
 ghost use Rattle.std.specs.Borrow.{sem};
 ghost use Rattle.std.specs.Option.{option_copied, option_copied_mut};
 ghost use Rattle.std.specs.Map.{lookup};
@@ -228,6 +228,7 @@ impl<K: Ord + Exact, V: Drop> Entries<K, V> {
         ensures alone { IfOk result
             (λ more. IsChangedAt K.cmp (entries_of self) (entries_of more) key value) }
         ensures err { IfErr result (λ refused. entries_of refused.value ≡ entries_of self) }
+        ensures first { IsErr result → entries_of self ≢ [] }
     {
         let mut tree = match self {
             Entries::One(entry) => match tree_of(alloc, entry) {
@@ -249,7 +250,8 @@ impl<K: Ord + Exact, V: Drop> Entries<K, V> {
 
     /// Puts a value under a key that is absent.
     ///
-    /// The only error is want of memory, and then the entries are the same.
+    /// The only error is that memory ran out, and then the entries are the same. The first entry
+    /// takes no memory.
     pub(crate) fn insert(&mut self, alloc: Global, key: K, value: V) -> Result<(), AllocError>
         requires { lookup (is_at (K.cmp key)) (entries_of self.old) ≡ None }
         ensures ok { OnOk result
@@ -257,6 +259,7 @@ impl<K: Ord + Exact, V: Drop> Entries<K, V> {
         ensures alone { OnOk result
             (IsChangedAt K.cmp (entries_of self.old) (entries_of self.new) key value) }
         ensures err { OnErr result (entries_of self.new ≡ entries_of self.old) }
+        ensures first { OnErr result (entries_of self.old ≢ []) }
     {
         match self {
             Entries::Tree(tree) if !tree.is_empty() => {
@@ -275,6 +278,7 @@ impl<K: Ord + Exact, V: Drop> Entries<K, V> {
         ensures alone { OnOk result
             (IsChangedAt K.cmp (entries_of self.old) (entries_of self.new) key value) }
         ensures err { OnErr result (entries_of self.new ≡ entries_of self.old) }
+        ensures first { OnErr result (entries_of self.old ≢ []) }
     {
         match mem::replace(self, Entries::new(alloc)).with(alloc, key, value) {
             Ok(more) => {

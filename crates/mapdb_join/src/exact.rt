@@ -9,7 +9,7 @@ ghost use Rattle.mapdb_join.specs.Lawful.Exact.{exact_pair};
 /// Contracts speak of more values than a program can have: of a byte above 255, or of a map whose
 /// keys are out of order. Laws that promise that a value *exists* name one of these.
 pub trait Representable {
-    /// What is true of exactly the values that a program can have, want of memory aside.
+    /// What is true of exactly the values that a program can have, memory aside.
     ghost is_value: { Self → Type 0 };
 
     /// Shows that the value at hand is one. It reads the value and does nothing else; only proofs

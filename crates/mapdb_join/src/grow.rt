@@ -50,7 +50,7 @@ impl<K: Ord + Exact> Grow<K> {
 
     /// Adds a key, and answers whether it was new.
     ///
-    /// The only error is want of memory, and then the key is new and nothing has changed.
+    /// The only error is that memory ran out, and then the key is new and nothing has changed.
     pub fn add(&mut self, key: K) -> Result<bool, AllocError>
         ensures new { IfOk result (λ new. new ≡ not (has_key K.cmp self.old key)) }
         ensures ok { OnOk result (self.new ≡ insert_key K.cmp self.old key) }

@@ -1,6 +1,6 @@
 //! A map of values that merge.
 ghost use Rattle.std.specs.Prelude.{◌≡◌, [], ◌∷◌, false, None, Some, IsSome, IfSome, OnOk, IfOk};
-ghost use Rattle.std.specs.Prelude.{IfErr, OnErr, MatchOption, length};
+ghost use Rattle.std.specs.Prelude.{◌≢◌, IfErr, OnErr, MatchOption, length};
 ghost use Rattle.std.specs.Borrow.{sem};
 ghost use Rattle.std.specs.Option.{option_copied, option_copied_mut};
 ghost use Rattle.std.specs.Map.{lookup};
@@ -106,7 +106,8 @@ impl<K: Ord + Exact, V: Merge> JoinMap<K, V> {
 
     /// Puts a value under a key that is absent.
     ///
-    /// The only error is want of memory, and then nothing has changed.
+    /// The only error is that memory ran out, and then nothing has changed. An empty map takes its
+    /// one entry without memory.
     pub fn insert(&mut self, key: K, value: V) -> Result<(), AllocError>
         requires { lookup (is_at (K.cmp key)) self.old ≡ None }
         ensures ok { OnOk result (self.new ≡ insert_entry K.cmp self.old key value) }
@@ -114,6 +115,7 @@ impl<K: Ord + Exact, V: Merge> JoinMap<K, V> {
         ensures atoms { OnOk result (IsUnion (has_under K.cmp V.has) self.old ((key, value) ∷ [])
             self.new) }
         ensures err { OnErr result (self.new ≡ self.old) }
+        ensures first { OnErr result (self.old ≢ []) }
     {
         self.entries.insert(self.alloc, key, value)
     }
@@ -148,7 +150,7 @@ impl<K: Ord + Exact, V: Merge> Merge for JoinMap<K, V> {
         first_clash(&self.entries, &other.entries)
     }
 
-    /// Leaves the keys of both, also those without atoms. Where memory was wanted, the keys lie
+    /// Leaves the keys of both, also those without atoms. Where memory ran out, the keys lie
     /// between the old ones and those of both, and the value under a new key is whole.
     fn merge(&mut self, other: &JoinMap<K, V>) -> Result<(), MergeFault<(K, V::Spot)>>
         ensures ok { OnOk result (IsUnion (has_under K.cmp V.has) self.old other.now self.new

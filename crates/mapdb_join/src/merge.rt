@@ -89,7 +89,7 @@ pub trait Merge: Representable + Drop {
     fn is_none(&self) -> bool
         ensures { IsTrue result ↔ HasNone has self.now };
 
-    /// A value with the same atoms. The only error is want of memory.
+    /// A value with the same atoms. The only error is that memory ran out.
     fn copy(&self) -> Result<Self, AllocError>
         ensures { IfOk result (λ c. IsSame has self.now c) };
 

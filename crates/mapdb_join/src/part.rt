@@ -40,7 +40,7 @@ pub trait MergePart: Merge {
         ensures err { IfErr result (FaultKeeps Self.has Self.excludes self.old (alone part)
             self.new) };
 
-    /// A value with the atoms of this part alone. The only error is want of memory.
+    /// A value with the atoms of this part alone. The only error is that memory ran out.
     fn of_part(alloc: Global, part: Self::Part) -> Result<Self, AllocError>
         ensures { IfOk result (λ v. IsSame Self.has (alone part) v) };
 }

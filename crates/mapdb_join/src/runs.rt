@@ -89,7 +89,8 @@ impl Runs {
     }
 
     /// Adds bits to so many pages from a first one on, and answers whether a page lacked one of
-    /// them. The only error is want of memory, and then nothing has changed.
+    /// them. The only error is that memory ran out, and then a page lacks one, and nothing has
+    /// changed.
     pub fn add(&mut self, first: u64, count: u64, bits: u8) -> Result<bool, AllocError>
         requires limit { first + count ≤ RUN_LIMIT }
         requires small { bits < BITS_LIMIT }
@@ -97,6 +98,7 @@ impl Runs {
             → has_at self.new p ≡ (has_at self.old p || in_region first count bits p)) }
         ensures new { IfOk result (λ new. IsTrue new ↔ ¬ (HasRegion self.old first count bits)) }
         ensures err { OnErr result (self.new ≡ self.old) }
+        ensures lacks { OnErr result (¬ (HasRegion self.old first count bits)) }
     {
         if count == 0 {
             return Ok(false);

@@ -4,12 +4,10 @@ ghost use Rattle.std.specs.Prelude.{◌≡◌, ◌≤◌, ◌+◌, ◌++◌, [],
 ghost use Rattle.std.specs.Prelude.{OnOk, OnErr};
 ghost use Rattle.mapdb_lines.specs.Fronts.{BeginsWith};
 
+use crate::limits::BLOCK_BYTES;
 use crate::streams::{Failed, Sink};
 use crate::writing::write_all;
 use std::alloc::{AllocError, Global};
-
-/// The bytes of a block.
-const BLOCK: usize = 65536;
 
 /// Bytes that wait to be written, `piece[start..end]`: a writer is asked once for many replies.
 #[derive(Drop)]
@@ -29,7 +27,7 @@ impl Block {
     pub fn new(alloc: Global) -> Result<Self, AllocError>
         ensures { IfOk result (λ block. waiting block ≡ []) }
     {
-        let piece = vec![in alloc; 0; BLOCK]?;
+        let piece = vec![in alloc; 0; BLOCK_BYTES]?;
         Ok(Block {
             piece,
             start: 0,
@@ -37,7 +35,7 @@ impl Block {
         })
     }
 
-    /// Writes all that waits, or fails with a front of it written; the rest waits then.
+    /// Writes all that waits, or fails with a prefix of it written; the rest waits then.
     pub fn flush<W: Sink>(&mut self, writer: &mut W) -> Result<(), Failed>
         ensures told { Passes (W.written writer.old) (W.written writer.new) (waiting self.old)
             (waiting self.new) [] }
@@ -65,7 +63,7 @@ impl Block {
         self.end = end;
     }
 
-    /// Has the text wait behind what waits already, or writes both. It fails with a front of them
+    /// Has the text wait behind what waits already, or writes both. It fails with a prefix of them
     /// written.
     pub fn put<W: Sink>(&mut self, writer: &mut W, text: &[u8]) -> Result<(), Failed>
         ensures ok { OnOk result (Passes (W.written writer.old) (W.written writer.new)
@@ -76,9 +74,9 @@ impl Block {
             (waiting self.new) part) }
         ensures failed { OnErr result (W.has_failed writer.new ≡ true) }
     {
-        if text.len() > BLOCK - self.end {
+        if text.len() > BLOCK_BYTES - self.end {
             self.flush(writer)?;
-            if text.len() > BLOCK {
+            if text.len() > BLOCK_BYTES {
                 return write_all(writer, text);
             }
         }

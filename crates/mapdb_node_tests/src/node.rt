@@ -231,7 +231,7 @@ fn too_many_seats(rt: HostRuntime) -> Result<(), Fail> {
     Ok(())
 }
 
-/// A seat of many calls wants no memory for one more.
+/// A seat of many calls needs no memory for one more.
 #[test]
 fn many_calls(rt: HostRuntime) -> Result<(), Fail> {
     let node = Node::new(rt.alloc(), 3);

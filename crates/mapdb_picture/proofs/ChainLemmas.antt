@@ -6,7 +6,7 @@ use Rattle.mapdb_facts.specs.State.{State}
 use Rattle.mapdb_facts.specs.declared.names.RecordId.{RecordId}
 use Rattle.mapdb_facts.specs.declared.operations.Record.{Record}
 use Rattle.mapdb_rights.specs.Right.{reaches, source_page}
-use Rattle.mapdb_rights.proofs.Steps.{earlier}
+use Rattle.mapdb_rights.proofs.Rights.Steps.{earlier}
 use Rattle.mapdb_picture.specs.Chain.{Spot, chain, chain_within, chained, source_in, step_up}
 
 -- a source has a lesser number

@@ -6,7 +6,7 @@ use Rattle.mapdb_replica.specs.Replica.{Log, empty}
 use Rattle.mapdb_replica.specs.Taking.{Takes, take_outcome}
 use Rattle.mapdb_replica.specs.declared.faults.TakeFault.{TakeFault}
 use Rattle.mapdb_replica.specs.declared.faults.TakeFault.TheVariants as take
-use Rattle.mapdb_replica.proofs.CallCases.{IsRefusedAs, TakeCases, take_cases}
+use Rattle.mapdb_replica.proofs.Calls.CallCases.{IsRefusedAs, TakeCases, take_cases}
 use Rattle.mapdb_snapshot.specs.Reading.{snapshot_of}
 use Rattle.mapdb_picture.specs.Loading.{loaded_of, of_take_fault, or_take_fault, taken_of}
 use Rattle.mapdb_picture.specs.declared.faults.LoadFault.{LoadFault}
@@ -29,7 +29,7 @@ pub copy_held : (bytes : List ℕ) (items batch : List Op) (count : ℕ) (old ne
 copy_held bytes items batch count old new read same fresh takes =
     loaded_is bytes items batch old read same fresh ∙ held batch (take_outcome old.ops batch) count old new fresh takes
 
--- a refusal is told as it is, or memory was wanted
+-- a refusal is told as it is, or memory ran out
 told_as : (refusal fault : TakeFault) → IsRefusedAs refusal fault
     → (of_take_fault fault ≡ Memory) ⊎ (or_take_fault (Err refusal) ≡ Err (of_take_fault fault))
 told_as (take.Bad place why) fault is = inr (sym (ap (λ (f : TakeFault). Err (of_take_fault f)) is))

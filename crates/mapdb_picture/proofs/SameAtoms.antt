@@ -6,12 +6,12 @@ use Rattle.mapdb_facts.specs.declared.names.RecordId.{RecordId}
 use Rattle.mapdb_facts.specs.declared.names.Space.{Space}
 use Rattle.mapdb_facts.specs.declared.operations.Op.{Op}
 use Rattle.mapdb_facts.specs.declared.operations.Record.{Record}
-use Rattle.mapdb_facts.proofs.Ascending.{records_of-state}
-use Rattle.mapdb_facts.proofs.Atoms.{state_of_same_atoms}
+use Rattle.mapdb_facts.proofs.RecordLemmas.Ascending.{records_of-state}
+use Rattle.mapdb_facts.proofs.Maps.Atoms.{state_of_same_atoms}
 use Rattle.mapdb_snapshot.specs.Cutting.{cut_names}
 use Rattle.mapdb_snapshot.specs.Snapshot.{ended_of}
-use Rattle.mapdb_snapshot.proofs.CutNames.{cut_names-state}
-use Rattle.mapdb_snapshot.proofs.EndedSpaces.{ended_of-state}
+use Rattle.mapdb_snapshot.proofs.Names.CutNames.{cut_names-state}
+use Rattle.mapdb_snapshot.proofs.Names.EndedSpaces.{ended_of-state}
 use Rattle.mapdb_picture.specs.Explanation.{explanation_of, explanation_text}
 use Rattle.mapdb_picture.specs.Picture.{picture_of, picture_text}
 

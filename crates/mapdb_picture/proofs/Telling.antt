@@ -1,19 +1,18 @@
 -- Texts to which one piece after the other is added.
 use Rattle.std.proofs.Common.{◌≡◌, ℕ, true, false, List, [], ◌∷◌, ◌++◌, length, refl, sym, ap, ◌∙◌, append_assoc, arith}
-use Rattle.std.specs.Prelude.{None, codes, flat_map, nat_eq}
+use Rattle.std.specs.Prelude.{codes, flat_map, nat_eq}
 use Rattle.std.proofs.lemmas.Bool.{eqb-true}
 use Rattle.std.proofs.lemmas.List.{append-nil}
 use Rattle.mapdb_facts.specs.Facts.{records_of_facts, state_of_facts}
-use Rattle.mapdb_facts.specs.Records.{behind, records_of}
+use Rattle.mapdb_facts.specs.Records.{records_of}
 use Rattle.mapdb_facts.specs.State.{State, state_of}
 use Rattle.mapdb_facts.specs.declared.holding.Facts.{Facts}
 use Rattle.mapdb_facts.specs.declared.names.Space.{Space}
 use Rattle.mapdb_facts.specs.declared.operations.Op.{Op}
 use Rattle.mapdb_facts.specs.declared.operations.Record.{Record}
-use Rattle.mapdb_facts.proofs.Listed.{records_of-facts}
+use Rattle.mapdb_facts.proofs.RecordLemmas.Listed.{records_of-facts}
 use Rattle.mapdb_snapshot.specs.Cutting.{cut_names}
 use Rattle.mapdb_snapshot.specs.Snapshot.{ended_of}
-use Rattle.mapdb_snapshot.proofs.Adding.{behind_none}
 use Rattle.mapdb_picture.specs.Explanation.{block_of, explanation_of, explanation_text, or_nothing, root_block}
 use Rattle.mapdb_picture.specs.Picture.{ended_line, graph_of, if_absent, picture_of, picture_text, record_lines, root_line}
 
@@ -27,12 +26,6 @@ told f old new all x xs left more is before =
 -- none are left
 pub all_told : {A : Type 0} (f : A → List ℕ) (text all : List ℕ) (left : List A) → left ≡ [] → text ++ flat_map f left ≡ all → text ≡ all
 all_told f text all left none before = sym (append-nil text) ∙ ap (λ ys. text ++ flat_map f ys) (sym none) ∙ before
-
--- nothing is told yet
-pub none_told : (f : Record → List ℕ) (text : List ℕ) (records : List Record) → text ≡ []
-    → text ++ flat_map f (behind None records) ≡ flat_map f records
-none_told f text records none =
-    ap (λ (t : List ℕ). t ++ flat_map f (behind None records)) none ∙ ap (flat_map f) (behind_none records)
 
 -- whether a text is empty
 pub told_nothing : (text : List ℕ) → nat_eq (length text) 0 ≡ true → or_nothing text ≡ codes "nothing\n"

@@ -38,8 +38,8 @@ abbrev pub held_text : Rights → Option ℕ → List ℕ
 held_text rights frame =
     codes "rights " ++ (text_of rights ++ (codes " frame " ++ reached_text frame))
 
-abbrev pub held_at : State → RecordId → ℕ → List ℕ
-held_at S id page = held_text (rights_at S id page) (frame_at S id page)
+abbrev pub label_at : State → RecordId → ℕ → List ℕ
+label_at S id page = held_text (rights_at S id page) (frame_at S id page)
 
 -- the pages of a run, the first and the last, and the rights that are revoked there
 abbrev pub run_text : CutRun → List ℕ
@@ -60,7 +60,7 @@ revoked_lines S id = flat_map revoked_line (cut_runs S id 0)
 
 -- what a record has at its first page, and what is revoked of it
 abbrev pub held_lines : State → RecordId → ℕ → List ℕ
-held_lines S id page = label_line (held_at S id page) ++ revoked_lines S id
+held_lines S id page = label_line (label_at S id page) ++ revoked_lines S id
 
 -- the label of the root: it names all pages, and has what it has at the first of them
 abbrev pub root_label : State → List ℕ

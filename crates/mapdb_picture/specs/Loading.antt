@@ -13,7 +13,7 @@ use Rattle.mapdb_picture.specs.Picture.{picture_text}
 use Rattle.mapdb_picture.specs.declared.faults.LoadFault.{LoadFault}
 use Rattle.mapdb_picture.specs.declared.faults.LoadFault.TheVariants.{Memory, Snapshot, Take}
 
--- why a text is no snapshot, or that memory was wanted
+-- why a text is no snapshot, or that memory ran out
 abbrev pub of_snapshot_fault : SnapshotFault → LoadFault
 of_snapshot_fault snapshot.NotJson = Snapshot snapshot.NotJson
 of_snapshot_fault snapshot.Shape = Snapshot snapshot.Shape
@@ -21,7 +21,7 @@ of_snapshot_fault snapshot.Version = Snapshot snapshot.Version
 of_snapshot_fault (snapshot.Page fault) = Snapshot (snapshot.Page fault)
 of_snapshot_fault snapshot.Memory = Memory
 
--- why a copy takes nothing, or that memory was wanted
+-- why a copy takes nothing, or that memory ran out
 abbrev pub of_take_fault : TakeFault → LoadFault
 of_take_fault (take.Bad place why) = Take (take.Bad place why)
 of_take_fault (take.Clash id) = Take (take.Clash id)

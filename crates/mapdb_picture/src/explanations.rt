@@ -64,10 +64,8 @@ fn record_blocks(
         ≡ flat_map (block_of (state_of_facts facts.now) space page) (records_of_facts facts.now)) }
 {
     let mut text = String::new(alloc);
-    let mut after = None;
-    'records: while let Some(mapping) = facts.next_record(after) {
+    for mapping in facts.records() {
         text.push_str(block_of(alloc, facts, space, page, &mapping)?.as_str())?;
-        after = Some(mapping.id);
     }
     Ok(text)
 }
@@ -86,7 +84,7 @@ fn or_nothing(alloc: Global, text: String) -> Result<String, AllocError>
 /// Why a page of a space has the rights and frames that it has in the copy: for each record of the
 /// space that holds the page, the chain from it to the frame, or to where the chain ends, with what
 /// each of its records names and what is revoked of it at its page, and then what the record has
-/// there. The first space's root is one of these. The one error is want of memory.
+/// there. The first space's root is one of these. The one error is that memory ran out.
 pub fn explanation(
     alloc: Global,
     copy: &Replica,

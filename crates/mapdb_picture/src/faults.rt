@@ -7,12 +7,13 @@ use std::alloc::AllocError;
 /// Why a text is no snapshot that a copy can hold. They are looked for in this order.
 #[derive(Clone, Copy, Debug, PartialEq, Eq)]
 pub enum LoadFault {
-    /// The text is no snapshot. This is never want of memory.
+    /// The text is no snapshot. Running out of memory is never told so.
     Snapshot(SnapshotFault),
     /// A copy cannot take what the snapshot says: an operation is not well-formed, two different
-    /// records have one name, or there are too many operations. This is never want of memory.
+    /// records have one name, or there are too many operations. Running out of memory is never
+    /// told so.
     Take(TakeFault),
-    /// Memory was wanted. This can come in place of any other.
+    /// Memory ran out. This can come in place of any other.
     Memory,
 }
 
@@ -22,7 +23,7 @@ impl From<AllocError> for LoadFault {
 
     ghost from_gives = { λ _ fault. fault ≡ Memory };
 
-    fn from(_wanted: AllocError) -> LoadFault {
+    fn from(_refused: AllocError) -> LoadFault {
         LoadFault::Memory
     }
 }

@@ -1,6 +1,6 @@
 //! A copy that takes what a snapshot says, and what is told of it.
 
-ghost use Rattle.std.specs.Prelude.{◌≡◌, ◌⊎◌, Ok, Err, IfOk, IfErr, string_bytes};
+ghost use Rattle.std.specs.Prelude.{◌≡◌, ◌⊎◌, [], Ok, Err, IfOk, IfErr, string_bytes};
 ghost use Rattle.mapdb_picture.specs.Loading.{explained, loaded_of, pictured};
 
 use crate::explanations::explanation;
@@ -11,10 +11,13 @@ use mapdb_replica::Replica;
 use mapdb_snapshot::snapshot_read;
 use std::alloc::Global;
 
-/// A copy that held nothing and has taken what a snapshot says, or why it takes nothing. Want of
-/// memory may come in place of any other fault.
+/// A copy of processor 0 that held nothing and has taken what a snapshot says, or why it takes
+/// nothing. It has issued nothing itself. Running out of memory may be told in place of any other
+/// fault.
 pub fn snapshot_copy(alloc: Global, bytes: &[u8]) -> Result<Replica, LoadFault>
     ensures held { IfOk result (λ copy. loaded_of bytes.now ≡ Ok copy.ops) }
+    ensures processor { IfOk result (λ copy. copy.processor ≡ 0) }
+    ensures own { IfOk result (λ copy. copy.own ≡ []) }
     ensures err { IfErr result (λ fault. (fault ≡ LoadFault.Memory)
         ⊎ (loaded_of bytes.now ≡ Err fault)) }
 {
@@ -27,7 +30,7 @@ pub fn snapshot_copy(alloc: Global, bytes: &[u8]) -> Result<Replica, LoadFault>
 }
 
 /// The Graphviz text of what a snapshot says, as [`picture`] writes it, or why a copy takes nothing
-/// of it. Want of memory may come in place of any other fault.
+/// of it. Running out of memory may be told in place of any other fault.
 pub fn snapshot_picture(alloc: Global, bytes: &[u8]) -> Result<String, LoadFault>
     ensures text { IfOk result (λ text. pictured bytes.now ≡ Ok (string_bytes text)) }
     ensures err { IfErr result (λ fault. (fault ≡ LoadFault.Memory)
@@ -38,7 +41,7 @@ pub fn snapshot_picture(alloc: Global, bytes: &[u8]) -> Result<String, LoadFault
 }
 
 /// Why a page of a space has what it has in a snapshot, as [`explanation`] tells it, or why a copy
-/// takes nothing of the snapshot. Want of memory may come in place of any other fault.
+/// takes nothing of the snapshot. Running out of memory may be told in place of any other fault.
 pub fn snapshot_explanation(
     alloc: Global,
     bytes: &[u8],

@@ -132,10 +132,8 @@ fn all_records(alloc: Global, facts: &Facts) -> Result<String, AllocError>
         ≡ flat_map (record_lines (state_of_facts facts.now)) (records_of_facts facts.now)) }
 {
     let mut text = String::new(alloc);
-    let mut after = None;
-    'records: while let Some(mapping) = facts.next_record(after) {
+    for mapping in facts.records() {
         text.push_str(record_lines(alloc, facts, &mapping)?.as_str())?;
-        after = Some(mapping.id);
     }
     Ok(text)
 }
@@ -185,8 +183,8 @@ fn graph_of(
 /// order of name, with their place and named rights, the page of their parent that they come from,
 /// the rights and the frame that they have at their first page, and what is revoked of them. A
 /// record is dashed whose parent is not held, and so is that parent; the box of a space that has
-/// ended is grey. It depends on what the operations say together alone. The one error is want of
-/// memory.
+/// ended is grey. It depends on what the operations say together alone. The one error is that
+/// memory ran out.
 pub fn picture(alloc: Global, copy: &Replica) -> Result<String, AllocError>
     ensures { IfOk result (λ text. string_bytes text ≡ picture_text copy.now.ops) }
 {

@@ -36,7 +36,7 @@ fn ask_all(book: &mut Book, commands: &[Command]) -> Asked {
     }
 }
 
-/// Asks another book what an entry says, unless it issued nothing for want of memory.
+/// Asks another book what an entry says, unless it issued nothing because memory ran out.
 fn ask_anew(other: &mut Book, entry: &Entry) -> End {
     match (entry.event, entry.reply) {
         (_, NodeReply::IssueRefused(IssueFault::Memory { issued: 0 })) => End::Done,

@@ -56,8 +56,8 @@ fn run_scripts<R: Threads + Wait + Sync>(
     }
 }
 
-/// Whether a run ends so for want of memory: it is told as such, or as a thread that could not be
-/// started, or as a link that another worker left.
+/// Whether a run ends so because memory ran out: it is told as such, or as a thread that could not
+/// be started, or as a link that another worker left.
 fn is_refusal(fault: RunFault) -> bool {
     matches!(
         fault,

@@ -9,7 +9,7 @@ use mapdb_replica::{Command, IssueFault, Replica};
 pub enum End {
     /// It is done.
     Done,
-    /// Memory was wanted, for the journal or inside the event.
+    /// Memory ran out, for the journal or inside the event.
     Refused,
     /// Something else, which no case is to meet.
     Strange,

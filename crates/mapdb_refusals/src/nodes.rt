@@ -1,4 +1,4 @@
-//! A node, which is closed after a call that wanted memory, or without its seats.
+//! A node, which is closed after a call that ran out of memory, or without its seats.
 
 use crate::commands::{copy_after, one_page_there_and_back};
 use crate::comparing::{is_front, is_whole};

@@ -1,4 +1,4 @@
-//! The tree, which is no longer known where a command wanted memory.
+//! The tree, which is no longer known where a command ran out of memory.
 
 use crate::commands::space;
 use crate::found::{Again, Found, refused, whole_if};
@@ -86,7 +86,7 @@ fn has_failed(tree: &mut Tree) -> bool {
     true
 }
 
-/// What a tree that wanted memory comes to.
+/// What a tree that ran out of memory comes to.
 fn failed(tree: &mut Tree) -> Option<Again> {
     if has_failed(tree) {
         Some(Again::Failed)
@@ -95,7 +95,7 @@ fn failed(tree: &mut Tree) -> Option<Again> {
     }
 }
 
-/// Commands at a tree, one of which may want memory.
+/// Commands at a tree, one of which may run out of memory.
 pub fn tree(alloc: Global) -> Found {
     let mut tree = Tree::new(alloc);
     match commands(&mut tree) {

@@ -1,15 +1,16 @@
--- How far memory lasts in one call, and what the call's result tells of it.
+-- How far memory lasts in one call, and what the result of the call tells of that.
 use Rattle.std.specs.Prelude.{ℕ, ◌<◌, Bool, true, false, List, length, take, Result, Ok, Err}
 use Rattle.mapdb_replica.specs.declared.faults.IssueFault.{IssueFault}
 use Rattle.mapdb_replica.specs.declared.faults.IssueFault.TheVariants as issue
 use Rattle.mapdb_replica.specs.declared.faults.TakeFault.{TakeFault}
 use Rattle.mapdb_replica.specs.declared.faults.TakeFault.TheVariants as take_fault
 
--- Memory is enough, or it ends after so many operations.
+-- Memory is enough for the whole call, or it ends after so many operations.
 pub data Memory : Type 0 where
   Enough : Memory
   EndsAfter : (count : ℕ) → Memory
 
+-- memory ends before the call is done
 abbrev pub ends : Memory → Bool
 ends Enough = false
 ends (EndsAfter count) = true
@@ -26,12 +27,17 @@ EndsWithin (EndsAfter count) ops = count < length ops
 
 -- how far memory lasted, as a fault tells
 abbrev pub issue_fault_memory : IssueFault → Memory
+issue_fault_memory (issue.SpaceEnded space) = Enough
+issue_fault_memory issue.RootSpace = Enough
+issue_fault_memory issue.NumbersSpent = Enough
+issue_fault_memory issue.Full = Enough
 issue_fault_memory (issue.Memory count) = EndsAfter count
-issue_fault_memory fault = Enough
 
 abbrev pub take_fault_memory : TakeFault → Memory
+take_fault_memory (take_fault.Bad place why) = Enough
+take_fault_memory (take_fault.Clash id) = Enough
+take_fault_memory take_fault.Full = Enough
 take_fault_memory (take_fault.Memory count) = EndsAfter count
-take_fault_memory fault = Enough
 
 -- how far memory lasted, as the result of a call tells
 abbrev pub issue_memory : {A : Type 0} → Result A IssueFault → Memory

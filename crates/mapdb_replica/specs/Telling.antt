@@ -1,6 +1,6 @@
--- Replies that tell the result of a call.
+-- A reply tells the result of a call, and nothing else.
 use Rattle.std.specs.Prelude.{◌≡◌}
 
--- the reply is that to a result of which this is so
+-- there is a result that the call may have, and the reply is the one to it
 abbrev pub TellsResult : {A R : Type 0} → (A → R) → R → (A → Type 0) → Type 0
 TellsResult {A} reply_to reply IsResult = (result : A) × IsResult result × (reply ≡ reply_to result)

@@ -4,14 +4,13 @@ ghost use Rattle.std.specs.Prelude.{◌≡◌, ◌≤◌, ◌<◌, ℕ};
 ghost use Rattle.mapdb_facts.specs.Facts.{state_of_facts};
 ghost use Rattle.mapdb_rights.specs.Index.{KeepsUp};
 ghost use Rattle.mapdb_rights.specs.Live.{IsLiveFrom, ShowUntil};
-ghost use Rattle.mapdb_rights.specs.Lone.{IsLonePair};
 ghost use Rattle.mapdb_rights.specs.Right.{rights_at};
 ghost use Rattle.mapdb_replica.specs.Pairs.{holder_pair};
 
 use crate::page_rights::pair_at;
 use mapdb_facts::{Facts, RecordId, Space};
 use mapdb_fpage::{PAGE_LIMIT, Rights};
-use mapdb_rights::{LonePair, RightsIndex, live_after, rights_of, show_until, steady_until};
+use mapdb_rights::{RightsIndex, live_after, rights_of, show_until, steady_until};
 
 /// The rights of a record at a page: none where it is not held.
 pub(crate) fn held_rights(facts: &Facts, index: &RightsIndex, id: RecordId, page: u64) -> Rights
@@ -70,18 +69,6 @@ pub(crate) fn next_live(
     match index.live_at(facts, space, page, after) {
         Some(found) => found,
         None => live_after(facts, space, page, after),
-    }
-}
-
-/// What the page of the space shows, where no more than one record of the space has a right there;
-/// in the first space the root is one of them.
-pub(crate) fn lone_pair(facts: &Facts, index: &RightsIndex, space: Space, page: u64) -> LonePair
-    requires { KeepsUp index.now (state_of_facts facts.now) }
-    ensures { IsLonePair (state_of_facts facts.now) space page result }
-{
-    match index.lone_pair_at(facts, space, page) {
-        Some(pair) => pair,
-        None => LonePair::Several,
     }
 }
 

@@ -1,6 +1,6 @@
 //! Versions of spaces that have not ended.
 
-use crate::faults::MOST_OPERATIONS;
+use crate::limits::MOST_OPERATIONS;
 use crate::replicas::Replica;
 use mapdb_facts::Space;
 

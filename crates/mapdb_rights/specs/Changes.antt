@@ -16,8 +16,8 @@ use Rattle.mapdb_rights.specs.OwnChanges.{own_change}
 use Rattle.mapdb_rights.specs.Caching.{Cached}
 use Rattle.mapdb_rights.specs.Frame.{frame_at}
 
-abbrev pub Changes : Type 0
-Changes = List (RecordId × OwnChanges)
+abbrev pub PageChanges : Type 0
+PageChanges = List (RecordId × OwnChanges)
 
 -- the change at a page among those of a record, where it has some
 abbrev pub change_in : Option OwnChanges → ℕ → Option Change
@@ -25,11 +25,11 @@ change_in None page = None
 change_in (Some own) page = own_change own page
 
 -- what stands from this page of the record on, where it changes there
-abbrev pub change_at : Changes → RecordId → ℕ → Option Change
+abbrev pub change_at : PageChanges → RecordId → ℕ → Option Change
 change_at changes id page = change_in (lookup (same_id id) changes) page
 
 -- one change of a record was put among all
-abbrev pub IsPut : Changes → RecordId → ℕ → Change → Changes → Type 0
+abbrev pub IsPut : PageChanges → RecordId → ℕ → Change → PageChanges → Type 0
 IsPut old id at change new = (other : RecordId) (page : ℕ) → change_at new other page
     ≡ (if same_id id other && nat_eq at page then Some change else change_at old other page)
 
@@ -38,8 +38,8 @@ abbrev pub at_first : RecordId → Change
 at_first id = record { rights = if is_root id then all_rights else no_rights; shift = page_limit }
 
 -- what stands behind the last page
-abbrev pub beyond : Change
-beyond = record { rights = no_rights; shift = page_limit }
+abbrev pub past_the_end : Change
+past_the_end = record { rights = no_rights; shift = page_limit }
 
 -- what the last change up to a page leaves
 unfoldable pub changed : (ℕ → Option Change) → Change → ℕ → Change
@@ -47,12 +47,12 @@ changed change first zero = unwrap_or (change zero) first
 changed change first (suc page) = unwrap_or (change (suc page)) (changed change first page)
 
 -- what the changes leave at each page of each record
-abbrev pub seen_in : Changes → RecordId → ℕ → Change
+abbrev pub seen_in : PageChanges → RecordId → ℕ → Change
 seen_in changes id page = if is_page page then changed (change_at changes id) (at_first id) page
-    else beyond
+    else past_the_end
 
 -- the cached rights that the changes stand for
-abbrev pub cached_in : Changes → Cached
+abbrev pub cached_in : PageChanges → Cached
 cached_in changes id page = (seen_in changes id page).rights
 
 -- the record reaches a frame at the page, as far from it as the shift says
@@ -63,6 +63,6 @@ pub record HasFrame (S : State) (id : RecordId) (page shift : ℕ) : Type 0 wher
   pub far : frame + page_limit ≡ page + shift
 
 -- where cached rights are not empty, the frame is as far from the page as the change says
-abbrev pub AreFrames : State → Changes → Type 0
+abbrev pub AreFrames : State → PageChanges → Type 0
 AreFrames S changes = (id : RecordId) (page : ℕ) → is_empty (cached_in changes id page) ≡ false
     → HasFrame S id page (seen_in changes id page).shift

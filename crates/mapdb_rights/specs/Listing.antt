@@ -114,8 +114,8 @@ abbrev pub AreOfHeld : State → Places → Type 0
 AreOfHeld S set = (e : Listed) → is_listed set e ≡ true → IsOfHeld S e
 
 -- how many pages the entry has
-abbrev pub pages_of : Listed → ℕ
-pages_of e = own_pages (own_place e)
+abbrev pub listed_pages : Listed → ℕ
+listed_pages e = own_pages (own_place e)
 
 -- from one page up to all, aligned, and from a page of the space on
 abbrev pub IsAligned : Listed → Type 0

@@ -9,7 +9,7 @@ use Rattle.std.specs.Ordering.{nat_cmp, ordering_then}
 use Rattle.std.specs.declared.cmp.Ordering.{Ordering}
 use Rattle.mapdb_facts.specs.Kept.{id_cmp}
 use Rattle.mapdb_rights.specs.declared.index.orders.Orders.{Orders}
-use Rattle.mapdb_rights.specs.declared.index.orders.TheConstants.{ORDER_LIMIT}
+use Rattle.mapdb_rights.specs.declared.limits.TheConstants.{ORDER_LIMIT}
 use Rattle.mapdb_rights.specs.declared.index.own_places.OwnPlace.{OwnPlace}
 
 -- by the order, the first page and the record's name

@@ -50,10 +50,8 @@ pub fn show_until(facts: &Facts, space: Space, page: u64) -> u64
     ensures shown { ShowUntil (state_of_facts facts.now) space page result }
 {
     let mut end = root_until(facts, space, page);
-    let mut after = None;
-    'records: while let Some(mapping) = facts.next_record(after) {
+    for mapping in facts.records() {
         end = end.min(record_until(facts, space, page, &mapping));
-        after = Some(mapping.id);
     }
     end
 }

@@ -8,7 +8,7 @@ use Rattle.std.specs.Prelude.{Option, Some, None, Result, Ok, Err, nat_lt, ◌==
 use Rattle.mapdb_facts.specs.declared.operations.Op.{Op}
 use Rattle.mapdb_replica.specs.Merging.{Merges}
 use Rattle.mapdb_replica.specs.Memory.{Enough}
-use Rattle.mapdb_replica.proofs.CallCases.{IsRefusedAs, TakeCases, take_cases}
+use Rattle.mapdb_replica.proofs.Calls.CallCases.{IsRefusedAs, TakeCases, take_cases}
 use Rattle.mapdb_replica.specs.Replica.{Log}
 use Rattle.mapdb_replica.specs.Taking.{Takes, take_outcome}
 use Rattle.mapdb_replica.specs.declared.faults.TakeFault.{TakeFault}
@@ -18,7 +18,7 @@ use Rattle.mapdb_cluster.specs.Net.{Done, Net, at_copy, event_done, joined, refu
 use Rattle.mapdb_cluster.specs.Run.{Happens, Loads, Move}
 use Rattle.mapdb_cluster.specs.declared.events.Event.TheVariants as event
 use Rattle.mapdb_cluster.specs.declared.events.Refusal.TheVariants as move_refusal
-use Rattle.mapdb_cluster.proofs.StepTells.{with_same}
+use Rattle.mapdb_cluster.proofs.Steps.StepTells.{with_same}
 use Rattle.mapdb_script.specs.Accepting.{heard}
 use Rattle.mapdb_script.specs.Cluster.{Answered, Cluster, LineDone, Refused, accepting, happened, line_done, loaded}
 use Rattle.mapdb_script.specs.Reply.{taken_text}
@@ -36,16 +36,16 @@ some_copy copies at copy there =
     lt-ltb 0 (length copies) (omega (arith, within))
 
 module _ (c : Cluster) (move : Move) where
-  -- a refusal is told as it is, or as a want of memory
+  -- a refusal is told as it is, or that memory ran out
   told_as : (why fault : TakeFault) (result : Result Answer TurnFault) → (fault ≡ why) ⊎ (fault ≡ take.Memory 0) → IsToldAs (move_refusal.Take fault) result
       → Does result c (Ok (line_done c move (refused c.net (move_refusal.Take why))))
   told_as why fault result (inl e) told = refused_told c move (move_refusal.Take why) result (rw e at told)
   told_as why fault result (inr e) told = let wanted = rw e at told in rw wanted tt
 
-  refusal_told : (why fault : TakeFault) (result : Result Answer TurnFault) → IsRefusedAs why fault → IsToldAs (move_refusal.Take fault) result
+  take_refusal_told : (why fault : TakeFault) (result : Result Answer TurnFault) → IsRefusedAs why fault → IsToldAs (move_refusal.Take fault) result
       → Does result c (Ok (line_done c move (take_refused c.net Enough why)))
-  refusal_told (take.Bad place what) fault result same told = told_as (take.Bad place what) fault result (inl same) told
-  refusal_told why fault result same told = told_as why fault result same told
+  take_refusal_told (take.Bad place what) fault result same told = told_as (take.Bad place what) fault result (inl same) told
+  take_refusal_told why fault result same told = told_as why fault result same told
 
   -- what a copy was given, by a move by which it hears from others
   taken_told : (at : ℕ) (copy new : Log) (batch : List Op) (outcome : Result (List Op) TakeFault) (taken : Result ℕ TakeFault) (result : Result Answer TurnFault)
@@ -58,7 +58,7 @@ module _ (c : Cluster) (move : Move) where
   taken_told at copy new batch (Err why) (Ok count) result there hears takes told = absurd takes
   taken_told at copy new batch (Err why) (Err fault) result there hears takes told =
       subst (λ (n : Net). Does result (record { net = n; accepted = c.accepted }) (Ok (line_done c move (take_refused c.net Enough why)))) (sym (with_same c.net at copy new there takes.1))
-      (refusal_told why fault result takes.0 told)
+      (take_refusal_told why fault result takes.0 told)
 
 -- a message that came to a copy
 pub delivery_told : (c : Cluster) (at message : ℕ) (copy new : Log) (batch : List Op) (taken : Result ℕ TakeFault) (result : Result Answer TurnFault)

@@ -9,8 +9,8 @@ use Rattle.mapdb_facts.specs.Records.{AllAfter, IsAmong, IsAscending}
 use Rattle.mapdb_facts.specs.Spaces.{numbered}
 use Rattle.mapdb_facts.specs.declared.names.Space.{Space}
 use Rattle.mapdb_facts.specs.declared.operations.Record.{Record}
-use Rattle.mapdb_facts.proofs.Ascending.{after_at, after_trans, before_else, before_same}
-use Rattle.mapdb_facts.proofs.Spaces.{ascending_space, placed_among, still_among}
+use Rattle.mapdb_facts.proofs.RecordLemmas.Ascending.{after_at, after_trans, before_else, before_same}
+use Rattle.mapdb_facts.proofs.Maps.Spaces.{ascending_space, placed_among, still_among}
 use Rattle.mapdb_replica.specs.Issue.{holder_of, holders, record_holders}
 use Rattle.mapdb_table.specs.Table.{rows_of_spaces, spaces_among}
 use Rattle.mapdb_table.specs.declared.rows.TableRow.{TableRow}

@@ -2,23 +2,18 @@
 use Rattle.std.proofs.Common.{◌≡◌, ℕ, refl, sym, ap, subst, ◌∙◌, List, [], ◌∷◌, inl, inr, arith}
 use Rattle.std.specs.Prelude.{◌⊎◌, None, Option}
 use Rattle.mapdb_fpage.specs.Bounds.{page_limit}
-use Rattle.mapdb_facts.specs.Names.{first_space, is_after}
-use Rattle.mapdb_facts.specs.Records.{IsAmong, IsAscending, behind, records_of}
-use Rattle.mapdb_facts.specs.declared.names.RecordId.{RecordId}
-use Rattle.std.proofs.lemmas.Bool.{cond_both}
+use Rattle.mapdb_facts.specs.Names.{first_space}
+use Rattle.mapdb_facts.specs.Records.{IsAmong, IsAscending, records_of}
 use Rattle.mapdb_facts.specs.Spaces.{numbered, placed_space}
-use Rattle.mapdb_facts.specs.State.{State, state_of}
+use Rattle.mapdb_facts.specs.State.{state_of}
 use Rattle.mapdb_facts.specs.declared.names.Space.{Space}
 use Rattle.mapdb_facts.specs.declared.operations.Op.{Op}
 use Rattle.mapdb_facts.specs.declared.operations.Record.{Record}
-use Rattle.mapdb_facts.proofs.SameLists.{SameMembers, same_lists}
-use Rattle.mapdb_facts.proofs.Spaces.{among_placed, ascending_space, placed_among, still_among}
-use Rattle.mapdb_replica.specs.Issue.{holders}
+use Rattle.mapdb_facts.proofs.Lists.SameLists.{same_lists}
+use Rattle.mapdb_facts.proofs.Maps.Spaces.{among_placed, ascending_space, placed_among, still_among}
 use Rattle.mapdb_replica.specs.Pairs.{Pair, page_rights}
 use Rattle.mapdb_replica.specs.Served.{served, served_among}
-use Rattle.mapdb_replica.specs.declared.pieces.Holder.{Holder}
 use Rattle.mapdb_table.specs.Table.{rows_behind, rows_of_spaces, space_rows, spaces_among, spaces_of, table}
-use Rattle.mapdb_table.specs.declared.rows.TableRow.{TableRow}
 use Rattle.mapdb_table.proofs.ListedSpaces.{ascending_among, none_or_space}
 use Rattle.mapdb_table.proofs.RowLists.{behind-all, behind-skip}
 
@@ -34,23 +29,12 @@ first_there : (records : List Record) → IsAmong first_space (spaces_among reco
 first_there [] = inl refl
 first_there (r ∷ rest) = still_among r.space first_space (spaces_among rest) (first_there rest)
 
--- the space of a record that comes behind a name is one that there is
-among_kept : (after : Option RecordId) (r : Record) (records : List Record) → IsAmong r (behind after records) → IsAmong r records
-among_kept after r [] k = k
-among_kept after r (x ∷ xs) k =
-    cond_both (is_after after x.id) (x ∷ behind after xs) (behind after xs) (λ (rs : List Record). IsAmong r rs → IsAmong r (x ∷ xs))
-    (λ b h. elim h [ inl e ↦ inl e | inr m ↦ inr (among_kept after r xs m) ]) (λ b h. inr (among_kept after r xs h)) k
-
-space_of : (r : Record) (records : List Record) → IsAmong r records → IsAmong r.space (spaces_among records)
+-- the space of a record is one that there is
+pub space_of : (r : Record) (records : List Record) → IsAmong r records → IsAmong r.space (spaces_among records)
 space_of r [] k = absurd k
 space_of r (x ∷ xs) (inl e) =
     subst (λ (y : Record). IsAmong y.space (spaces_among (x ∷ xs))) e (placed_among x.space (spaces_among xs))
 space_of r (x ∷ xs) (inr k) = still_among x.space r.space (spaces_among xs) (space_of r xs k)
-
-pub space_behind : (after : Option RecordId) (records later : List Record) (r : Record) → behind after records ≡ r ∷ later
-    → IsAmong r.space (spaces_among records)
-space_behind after records later r is =
-    space_of r records (among_kept after r records (subst (λ (rs : List Record). IsAmong r rs) (sym is) (inl refl)))
 
 pub gathered-first : (records rest : List Record) (none spaces : List Space) → none ≡ [] → rest ≡ records → spaces ≡ placed_space first_space none
     → Gathered records rest spaces

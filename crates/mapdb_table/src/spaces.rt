@@ -23,10 +23,8 @@ fn gathered(alloc: Global, facts: &Facts) -> Result<BTreeSet<Space>, AllocError>
 {
     let mut spaces = BTreeSet::new(alloc);
     add_space(&mut spaces, Space::FIRST)?;
-    let mut after = None;
-    'records: while let Some(mapping) = facts.next_record(after) {
+    for mapping in facts.records() {
         add_space(&mut spaces, mapping.space)?;
-        after = Some(mapping.id);
     }
     Ok(spaces)
 }

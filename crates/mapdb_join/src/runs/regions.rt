@@ -128,8 +128,8 @@ fn change_over(
     Ok(Change { low, high, list })
 }
 
-/// Adds bits to each page of a region that is not empty. The only error is want of memory, and then
-/// nothing has changed.
+/// Adds bits to each page of a region that is not empty. The only error is that memory ran out, and
+/// then nothing has changed.
 pub(crate) fn add_over(
     starts: &mut Vec<Start>,
     alloc: Global,
@@ -181,7 +181,7 @@ pub(crate) fn has_over(starts: &[Start], first: u64, end: u64, bits: u8) -> bool
 }
 
 /// Adds bits to each page of a region that is not empty, and answers whether a page lacked one of
-/// them. The only error is want of memory, and then nothing has changed.
+/// them. The only error is that memory ran out, and then nothing has changed.
 pub(crate) fn add_region(
     starts: &mut Vec<Start>,
     alloc: Global,
@@ -196,6 +196,7 @@ pub(crate) fn add_region(
     ensures over { OnOk result (IsOver first end bits starts.old.items starts.new.items) }
     ensures new { IfOk result (λ new. IsTrue new ↔ ¬ (HasOver first end bits starts.old.items)) }
     ensures err { OnErr result (starts.new.items ≡ starts.old.items) }
+    ensures lacks { OnErr result (¬ (HasOver first end bits starts.old.items)) }
 {
     if has_over(starts.as_slice(), first, end, bits) {
         return Ok(false);

@@ -24,8 +24,8 @@ pub(crate) fn covers_all(mine: &[Start], theirs: &[Start]) -> bool
     true
 }
 
-/// Adds all runs of the second list to the first. The only error is want of memory, and then each
-/// page has its old bits, or those of both.
+/// Adds all runs of the second list to the first. The only error is that memory ran out, and then
+/// each page has its old bits, or those of both.
 pub(crate) fn merge_all(
     mine: &mut Vec<Start>,
     alloc: Global,

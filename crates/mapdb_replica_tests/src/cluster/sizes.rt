@@ -1,4 +1,4 @@
-//! Runs of many events, and messages of many operations. No event wants memory there.
+//! Runs of many events, and messages of many operations. No event runs out of memory there.
 
 use super::{deliver, end, send};
 use mapdb_cluster::{Cluster, Reply};

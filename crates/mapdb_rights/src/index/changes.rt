@@ -98,7 +98,7 @@ fn has_change(changes: &AllChanges, id: RecordId, page: u64) -> bool
 }
 
 /// Puts a change of a record among all, in place of one that stands at its page. An error where
-/// memory was wanted.
+/// memory ran out.
 fn put(
     own_changes: &mut HashMap<RecordId, OwnChanges>,
     alloc: Global,

@@ -99,8 +99,8 @@ fn set_at(list: &mut [PageChange], at: usize, next: PageChange)
     list[at] = next;
 }
 
-/// Puts a change into the list, in place of one that stands at its page. An error where memory was
-/// wanted.
+/// Puts a change into the list, in place of one that stands at its page. An error where memory ran
+/// out.
 pub(crate) fn few_put(
     list: &mut SmallVec<PageChange, 2>,
     page: u64,

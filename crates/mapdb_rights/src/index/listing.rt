@@ -86,10 +86,8 @@ pub(crate) fn list_records(listed: &mut Places, facts: &Facts) -> Result<(), All
     requires held { AreOfHeld (state_of_facts facts.now) listed.old }
     ensures { OnOk result (AreListed (state_of_facts facts.now) listed.new) }
 {
-    let mut after = None;
-    'records: while let Some(mapping) = facts.next_record(after) {
+    for mapping in facts.records() {
         list_record(listed, &mapping)?;
-        after = Some(mapping.id);
     }
     Ok(())
 }

@@ -39,7 +39,7 @@ impl ManyPlaces {
         }
     }
 
-    /// Puts one place more. An error where memory was wanted.
+    /// Puts one place more. An error where memory ran out.
     pub(crate) fn insert(&mut self, place: OwnPlace) -> Result<(), AllocError>
         ensures { OnOk result ((k : OwnPlace) → stands self.new.places.keys k
             ≡ (is_at (place_cmp place) k || stands self.old.places.keys k)) }

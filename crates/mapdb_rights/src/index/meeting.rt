@@ -15,7 +15,7 @@ impl RightsIndex {
     ghost use Rattle.mapdb_rights.specs.Meeting.{children_of, holders_of};
 
     /// The records of a space whose places share pages with this one, in ascending order of name.
-    /// None where the index is absent. An error where memory was wanted for the list.
+    /// None where the index is absent. An error where memory ran out for the list.
     pub fn holders(
         &self,
         facts: &Facts,
@@ -38,8 +38,8 @@ impl RightsIndex {
     }
 
     /// The children of a record, or of a name that is not held, whose sources share pages with this
-    /// place, in ascending order of name. None where the index is absent. An error where memory was
-    /// wanted for the list.
+    /// place, in ascending order of name. None where the index is absent. An error where memory ran
+    /// out for the list.
     pub fn children(
         &self,
         facts: &Facts,

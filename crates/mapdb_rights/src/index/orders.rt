@@ -3,8 +3,7 @@
 ghost use Rattle.std.specs.Prelude.{◌≡◌};
 ghost use Rattle.mapdb_rights.specs.Standing.{IsNextOrder, IsWithOrder};
 
-/// For each order below this there is a bit.
-const ORDER_LIMIT: u8 = 64;
+use crate::limits::ORDER_LIMIT;
 
 /// A set of orders of places.
 #[derive(Clone, Copy, Debug)]

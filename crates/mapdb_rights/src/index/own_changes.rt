@@ -7,13 +7,11 @@ ghost use Rattle.mapdb_rights.specs.OwnChanges.{IsLastUpTo, IsNoneUntil, own_cha
 use super::changes::Change;
 use super::few_changes::{PageChange, few_last, few_next, few_put, map_of};
 use super::many_changes::{many_last, many_next};
+use crate::limits::FEW_CHANGES;
 use mapdb_fpage::PAGE_LIMIT;
 use smallvec::SmallVec;
 use std::alloc::{AllocError, Global};
 use std::collections::BTreeMap;
-
-/// How many changes are looked through one by one; more stand in a map.
-const FEW: usize = 16;
 
 /// All changes of a record.
 #[derive(Drop)]
@@ -55,15 +53,15 @@ impl OwnChanges {
         }
     }
 
-    /// The same changes as a map, where they are too many for a list. An error where memory was
-    /// wanted.
+    /// The same changes as a map, where they are too many for a list. An error where memory ran
+    /// out.
     fn outgrown(&self, alloc: Global) -> Result<Option<BTreeMap<u64, Change>>, AllocError>
         ensures { IfOk result (λ grown. IfSome grown
             (λ map. (page : ℕ) → own_change (OwnChanges.Many map) page
             ≡ own_change self.now page)) }
     {
         match self {
-            OwnChanges::Few(list) if list.len() >= FEW => {
+            OwnChanges::Few(list) if list.len() >= FEW_CHANGES => {
                 let map = map_of(alloc, list.as_slice())?;
                 Ok(Some(map))
             }
@@ -71,8 +69,8 @@ impl OwnChanges {
         }
     }
 
-    /// Goes over to a map where there are too many changes for a list. An error where memory was
-    /// wanted.
+    /// Goes over to a map where there are too many changes for a list. An error where memory ran
+    /// out.
     fn widen(&mut self, alloc: Global) -> Result<(), AllocError>
         ensures { OnOk result ((page : ℕ) → own_change self.new page ≡ own_change self.old page) }
     {
@@ -83,7 +81,7 @@ impl OwnChanges {
     }
 
     /// Puts a change where the changes are kept now, in place of one that stands at its page. An
-    /// error where memory was wanted.
+    /// error where memory ran out.
     fn put_there(&mut self, page: u64, change: Change) -> Result<(), AllocError>
         ensures { OnOk result ((q : ℕ) → own_change self.new q
             ≡ (if nat_eq page q then Some change else own_change self.old q)) }
@@ -97,7 +95,7 @@ impl OwnChanges {
         }
     }
 
-    /// Puts a change, in place of one that stands at its page. An error where memory was wanted.
+    /// Puts a change, in place of one that stands at its page. An error where memory ran out.
     pub(crate) fn put(&mut self, alloc: Global, page: u64, change: Change) -> Result<(), AllocError>
         ensures { OnOk result ((q : ℕ) → own_change self.new q
             ≡ (if nat_eq page q then Some change else own_change self.old q)) }

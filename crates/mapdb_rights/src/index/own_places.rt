@@ -14,6 +14,7 @@ ghost use Rattle.mapdb_rights.specs.declared.index.own_places.OwnPlace.{OwnPlace
 
 use super::few_places::{found_meeting, least_inside};
 use super::many_places::ManyPlaces;
+use crate::limits::FEW_PLACES;
 use mapdb_facts::RecordId;
 use mapdb_fpage::{LEAST_ORDER, PAGE_LIMIT, TOP_ORDER};
 use smallvec::SmallVec;
@@ -68,9 +69,6 @@ pub struct FoundPlace {
     /// Whether none that is looked for comes behind it; where it is not known, it says no.
     pub last: bool,
 }
-
-/// How many places are looked through one by one; more stand in a set.
-const FEW: usize = 16;
 
 /// All places of an owner.
 #[derive(Drop)]
@@ -141,14 +139,14 @@ impl OwnPlaces {
         }
     }
 
-    /// The same places as many, where they are too many for a list. An error where memory was
-    /// wanted.
+    /// The same places as many, where they are too many for a list. An error where memory ran
+    /// out.
     fn outgrown(&self, alloc: Global) -> Result<Option<ManyPlaces>, AllocError>
         ensures { IfOk result (λ grown. IfSome grown (λ many. (k : OwnPlace)
             → stands many.places.keys k ≡ stands (own_list self.now) k)) }
     {
         match self {
-            OwnPlaces::Few(list) if list.len() >= FEW => {
+            OwnPlaces::Few(list) if list.len() >= FEW_PLACES => {
                 let many = many_of(alloc, list.as_slice())?;
                 Ok(Some(many))
             }
@@ -156,8 +154,8 @@ impl OwnPlaces {
         }
     }
 
-    /// Goes over to many where there are too many places for a list. An error where memory was
-    /// wanted.
+    /// Goes over to many where there are too many places for a list. An error where memory ran
+    /// out.
     fn widen(&mut self, alloc: Global) -> Result<(), AllocError>
         ensures { OnOk result ((k : OwnPlace) → stands (own_list self.new) k
             ≡ stands (own_list self.old) k) }
@@ -168,7 +166,7 @@ impl OwnPlaces {
         Ok(())
     }
 
-    /// Puts one place more where the places are kept now. An error where memory was wanted.
+    /// Puts one place more where the places are kept now. An error where memory ran out.
     fn put(&mut self, place: OwnPlace) -> Result<(), AllocError>
         ensures { OnOk result ((k : OwnPlace) → stands (own_list self.new) k
             ≡ (is_at (place_cmp place) k || stands (own_list self.old) k)) }
@@ -182,7 +180,7 @@ impl OwnPlaces {
         Ok(())
     }
 
-    /// Puts one place more. An error where memory was wanted.
+    /// Puts one place more. An error where memory ran out.
     pub(crate) fn insert(&mut self, alloc: Global, place: OwnPlace) -> Result<(), AllocError>
         ensures { OnOk result ((k : OwnPlace) → stands (own_list self.new) k
             ≡ (is_at (place_cmp place) k || stands (own_list self.old) k)) }

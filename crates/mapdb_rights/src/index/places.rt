@@ -101,7 +101,7 @@ fn found_for(owner: Owner, found: Option<FoundPlace>) -> Option<FoundEntry>
     }
 }
 
-/// Puts an entry among the places of its owner. An error where memory was wanted.
+/// Puts an entry among the places of its owner. An error where memory ran out.
 fn put(
     owners: &mut HashMap<Owner, OwnPlaces>,
     alloc: Global,
@@ -137,7 +137,7 @@ impl Places {
         }
     }
 
-    /// Lists one entry more. An error where memory was wanted.
+    /// Lists one entry more. An error where memory ran out.
     pub(crate) fn insert(&mut self, entry: Listed) -> Result<(), AllocError>
         ensures { OnOk result ((e : Listed) → is_listed self.new e
             ≡ (is_at (listed_cmp entry) e || is_listed self.old e)) }

@@ -40,7 +40,7 @@ impl RightsIndex {
 
     /// The names of all records of the space that have a right at the page, in ascending order; in
     /// the first space the root is one of them. None where the index is absent. An error where
-    /// memory was wanted for the list.
+    /// memory ran out for the list.
     pub fn in_space(
         &self,
         facts: &Facts,

@@ -9,8 +9,8 @@ use mapdb_facts::{Facts, Op, RecordId};
 use mapdb_fpage::Rights;
 use std::alloc::{AllocError, Global};
 
-/// The rights of records at pages, kept beside the facts that they follow from. Want of memory
-/// makes it absent.
+/// The rights of records at pages, kept beside the facts that they follow from. Running out of
+/// memory makes it absent.
 #[derive(Drop)]
 pub struct RightsIndex {
     pub(crate) changes: AllChanges,
@@ -54,7 +54,7 @@ impl RightsIndex {
         }
     }
 
-    /// The index of facts. An error where memory was wanted.
+    /// The index of facts. An error where memory ran out.
     pub fn build(alloc: Global, facts: &Facts) -> Result<RightsIndex, AllocError>
         ensures { IfOk result (λ index. StandsFor index (state_of_facts facts.now)) }
     {
@@ -69,7 +69,7 @@ impl RightsIndex {
         })
     }
 
-    /// Whether memory was wanted, and nothing is kept.
+    /// Whether memory ran out, and nothing is kept.
     pub fn is_absent(&self) -> bool
         ensures { result ≡ self.now.absent }
     {
@@ -102,7 +102,7 @@ impl RightsIndex {
     }
 
     /// Follows an operation that the facts have by now: they say what they said before, and this.
-    /// An error where memory was wanted: the index is absent then, and keeps nothing. An absent
+    /// An error where memory ran out: the index is absent then, and keeps nothing. An absent
     /// index stays as it is, without an error.
     pub fn added(&mut self, facts: &Facts, op: &Op) -> Result<(), AllocError>
         requires formed { is_formed op.now ≡ true }
@@ -157,7 +157,7 @@ impl RightsIndex {
     }
 
     /// The maximal runs of pages over which a record has equal rights, and not none, in ascending
-    /// order. None where the index is absent. An error where memory was wanted for the list.
+    /// order. None where the index is absent. An error where memory ran out for the list.
     pub fn runs(&self, id: RecordId) -> Result<Option<Vec<RightsRun>>, AllocError>
         ensures absent { self.now.absent ≡ true → result ≡ Ok None }
         ensures there { self.now.absent ≡ false → IfOk result (λ runs. IsSome runs) }

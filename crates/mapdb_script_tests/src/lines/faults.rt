@@ -1,6 +1,6 @@
 //! What the faults of scripts are called.
 
-use mapdb_lines::{LineFault, ScriptFault};
+use mapdb_script::{LineFault, ScriptFault};
 use std::test::Fail;
 
 #[test]

@@ -3,7 +3,7 @@ use Rattle.std.specs.Prelude.{Option, Result}
 use Rattle.std.specs.Io.KnownBytes.{Consumes}
 use Rattle.mapdb_picture.specs.declared.faults.LoadFault.TheVariants.{Memory}
 use Rattle.mapdb_lines.proofs.BlockLemmas.{appends-none}
-use Rattle.l4map.specs.Snapshots.{told_of}
+use Rattle.l4map.specs.Snapshots.{answer_told}
 use Rattle.l4map.proofs.SnapshotLemmas.{fault_told, front_told}
 use Rattle.l4map.proofs.snapshots.tell_snapshot.Goals as goal
 
@@ -21,15 +21,15 @@ returns-in_err-text-clause-told g c =
       appends-none (g.W.Sink.written c.args.writer.now),
       fault_told c.args.asked c.from_residual-in_err-text.result c.in_ok-input.input.items fault _ c.from_residual-in_err-text.ensures.0 c.from_residual-in_err-text.ensures.1
           c.in_ok-input.ensures.over
-          (subst (λ (bs : List ℕ). (fault ≡ Memory) ⊎ (told_of c.args.asked bs ≡ Err fault)) c.as_slice.ensures.value c.in_err-text.ensures.err),
+          (subst (λ (bs : List ℕ). (fault ≡ Memory) ⊎ (answer_told c.args.asked bs ≡ Err fault)) c.as_slice.ensures.value c.in_err-text.ensures.err),
     )
 
 pub returns-clause-told : goal.returns-clause-told
 returns-clause-told g c =
     let read = c.in_ok-input.ensures.read in
     let written = c.write_text.ensures.told in
-    let told : told_of c.args.asked c.in_ok-input.input.items ≡ Ok c.as_str.result.now =
-    sym (ap (told_of c.args.asked) c.as_slice.ensures.value) ∙ c.in_ok-text.ensures.text ∙ sym (ap (λ (bs : List ℕ). Ok bs) c.as_str.ensures.value) in (
+    let told : answer_told c.args.asked c.in_ok-input.input.items ≡ Ok c.as_str.result.now =
+    sym (ap (answer_told c.args.asked) c.as_slice.ensures.value) ∙ c.in_ok-text.ensures.text ∙ sym (ap (λ (bs : List ℕ). Ok bs) c.as_str.ensures.value) in (
       c.in_ok-input.input.items,
       written.0,
       read_input (g.R.Source.left c.args.reader.now) (g.R.Source.left c.read_all.new.reader) read.0 c.in_ok-input.input.items read.1 read.2,

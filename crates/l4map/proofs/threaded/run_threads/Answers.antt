@@ -5,12 +5,12 @@ use Rattle.std.proofs.lemmas.Result.{err_from_is_err_and}
 use Rattle.mapdb_exchange.specs.Counts.{IsCount}
 use Rattle.mapdb_exchange.specs.declared.faults.RunFault.TheVariants.{BadCount}
 use Rattle.mapdb_exchange.specs.declared.reports.Part.{Part}
-use Rattle.mapdb_lines.specs.declared.fault.ScriptFault.{ScriptFault}
-use Rattle.mapdb_lines.specs.declared.fault.ScriptFault.TheVariants.{Line}
+use Rattle.mapdb_script.specs.declared.faults.ScriptFault.{ScriptFault}
+use Rattle.mapdb_script.specs.declared.faults.ScriptFault.TheVariants.{Line}
 use Rattle.mapdb_lines.proofs.BlockLemmas.{appends-none}
 use Rattle.mapdb_script.specs.Run.{HasEnded}
 use Rattle.mapdb_script.specs.Threading.{TellsScripts}
-use Rattle.l4map.specs.Threaded.{IsWritten, report_text}
+use Rattle.l4map.specs.Threaded.{IsTextWritten, report_text}
 use Rattle.l4map.proofs.ReportLemmas.{fault_told, report_told}
 use Rattle.l4map.proofs.threaded.run_threads.Goals as goal
 
@@ -35,7 +35,7 @@ returns-in-Ok-run-clause-told g c =
     let read = c.in-Ok.ensures.told in
     let wrote = c.write_report.ensures.told in
     let few = subst (λ (n : ℕ). IsCount n c.args.capacity) (sym (length-map _ _)) c.in-Ok-run.ensures.count in
-    let written = subst (λ (parts : List Part). IsWritten c.write_report.result (report_text parts) wrote.0) c.as_slice.ensures.value wrote.2 in (
+    let written = subst (λ (parts : List Part). IsTextWritten c.write_report.result (report_text parts) wrote.0) c.as_slice.ensures.value wrote.2 in (
       read.0,
       wrote.0,
       read.1,

@@ -1,4 +1,4 @@
-use Rattle.mapdb_cluster.proofs.Running.{copies_agree}
+use Rattle.mapdb_cluster.proofs.Moves.Running.{copies_agree}
 use Rattle.mapdb_cluster.proofs.laws.copies_agree.Goals as goal
 
 pub returns : goal.returns

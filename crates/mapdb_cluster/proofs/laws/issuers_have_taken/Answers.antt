@@ -1,4 +1,4 @@
-use Rattle.mapdb_cluster.proofs.Unmaps.{issuers_have_taken}
+use Rattle.mapdb_cluster.proofs.Moves.Unmaps.{issuers_have_taken}
 use Rattle.mapdb_cluster.proofs.laws.issuers_have_taken.Goals as goal
 
 pub returns : goal.returns

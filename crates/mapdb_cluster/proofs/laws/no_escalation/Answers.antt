@@ -1,4 +1,4 @@
-use Rattle.mapdb_cluster.proofs.Running.{no_escalation}
+use Rattle.mapdb_cluster.proofs.Moves.Running.{no_escalation}
 use Rattle.mapdb_cluster.proofs.laws.no_escalation.Goals as goal
 
 pub returns : goal.returns

@@ -1,4 +1,4 @@
-use Rattle.mapdb_cluster.proofs.Alone.{runs_alone_are_trees}
+use Rattle.mapdb_cluster.proofs.Moves.Alone.{runs_alone_are_trees}
 use Rattle.mapdb_cluster.proofs.laws.runs_alone_are_trees.Goals as goal
 
 pub returns : goal.returns

@@ -1,4 +1,4 @@
-use Rattle.mapdb_cluster.proofs.Running.{schedules_are_exact}
+use Rattle.mapdb_cluster.proofs.Moves.Running.{schedules_are_exact}
 use Rattle.mapdb_cluster.proofs.laws.schedules_are_exact.Goals as goal
 
 pub returns : goal.returns

@@ -2,7 +2,7 @@ use Rattle.std.proofs.Common.{◌∙◌}
 use Rattle.mapdb_join.specs.Bits.{has_bit}
 use Rattle.mapdb_join.specs.Runs.{has_at}
 use Rattle.mapdb_facts.specs.Kept.{bit_of}
-use Rattle.mapdb_facts.proofs.CutRuns.{same_where}
+use Rattle.mapdb_facts.proofs.Maps.CutRuns.{same_where}
 use Rattle.mapdb_facts.proofs.runs.rights_at.Goals as goal
 
 pub returns : goal.returns

@@ -1,4 +1,4 @@
-use Rattle.mapdb_facts.proofs.CutRuns.{least_rights}
+use Rattle.mapdb_facts.proofs.Maps.CutRuns.{least_rights}
 use Rattle.mapdb_facts.proofs.runs.run_from.Goals as goal
 
 pub returns : goal.returns

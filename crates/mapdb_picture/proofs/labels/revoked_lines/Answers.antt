@@ -3,7 +3,7 @@ use Rattle.std.specs.Prelude.{Some, string_bytes}
 use Rattle.mapdb_facts.specs.Adding.{cut_at}
 use Rattle.mapdb_facts.specs.Facts.{state_of_facts}
 use Rattle.mapdb_facts.specs.Runs.{cut_runs}
-use Rattle.mapdb_facts.proofs.CutRuns.{begins_behind, ends_behind}
+use Rattle.mapdb_facts.proofs.Maps.CutRuns.{begins_behind, ends_behind}
 use Rattle.mapdb_picture.specs.Labels.{revoked_line}
 use Rattle.mapdb_picture.proofs.Telling.{told}
 use Rattle.mapdb_picture.proofs.labels.revoked_lines.Goals as goal

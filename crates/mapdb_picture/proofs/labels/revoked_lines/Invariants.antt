@@ -3,7 +3,7 @@ use Rattle.std.specs.Prelude.{flat_map, string_bytes}
 use Rattle.mapdb_facts.specs.Adding.{cut_at}
 use Rattle.mapdb_facts.specs.Facts.{state_of_facts}
 use Rattle.mapdb_facts.specs.Runs.{cut_runs}
-use Rattle.mapdb_facts.proofs.CutRuns.{EndsBefore}
+use Rattle.mapdb_facts.proofs.Maps.CutRuns.{EndsBefore}
 use Rattle.mapdb_picture.specs.Labels.{revoked_line, revoked_lines}
 use Rattle.mapdb_picture.proofs.labels.revoked_lines.Given as goal
 

@@ -2,7 +2,7 @@ use Rattle.std.proofs.Common.{◌≡◌, ℕ, ◌≤◌, ◌<◌}
 use Rattle.mapdb_facts.specs.Facts.{state_of_facts}
 use Rattle.mapdb_facts.specs.State.{State}
 use Rattle.mapdb_rights.specs.Right.{rights_at}
-use Rattle.mapdb_replica.proofs.FoundAnswers.{equal_on, found_fact}
+use Rattle.mapdb_replica.proofs.Copies.FoundAnswers.{equal_on, found_fact}
 use Rattle.mapdb_replica.proofs.asking.equal_until.Goals as goal
 
 pub returns-in-Some-clause-same : goal.returns-in-Some-clause-same

@@ -1,7 +1,7 @@
 use Rattle.mapdb_facts.specs.Facts.{state_of_facts}
 use Rattle.mapdb_facts.specs.State.{State}
 use Rattle.mapdb_rights.specs.Right.{rights_at}
-use Rattle.mapdb_replica.proofs.FoundAnswers.{found_value}
+use Rattle.mapdb_replica.proofs.Copies.FoundAnswers.{found_value}
 use Rattle.mapdb_replica.proofs.asking.held_rights.Goals as goal
 
 pub returns-in-Some : goal.returns-in-Some

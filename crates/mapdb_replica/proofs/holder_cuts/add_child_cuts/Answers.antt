@@ -4,7 +4,7 @@ use Rattle.std.specs.List.{cons_option, filter_map}
 use Rattle.mapdb_facts.specs.declared.operations.Op.{Op}
 use Rattle.mapdb_facts.specs.declared.operations.Record.{Record}
 use Rattle.mapdb_replica.specs.Revoking.{cut_within}
-use Rattle.mapdb_replica.proofs.MeetingRecords.{given_more}
+use Rattle.mapdb_replica.proofs.Unmaps.MeetingRecords.{given_more}
 use Rattle.mapdb_replica.proofs.holder_cuts.add_child_cuts.Goals as goal
 
 pub loop-child-preserved : goal.loop-child-preserved

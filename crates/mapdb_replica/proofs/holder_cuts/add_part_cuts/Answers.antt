@@ -8,7 +8,7 @@ use Rattle.mapdb_facts.specs.declared.operations.Record.{Record}
 use Rattle.mapdb_rights.specs.Meeting.{children_of}
 use Rattle.mapdb_replica.specs.Revoking.{cut_within}
 use Rattle.mapdb_replica.specs.Unmap.{child_cut, own_cut}
-use Rattle.mapdb_replica.proofs.MeetingRecords.{cuts_taken}
+use Rattle.mapdb_replica.proofs.Unmaps.MeetingRecords.{cuts_taken}
 use Rattle.mapdb_replica.proofs.holder_cuts.add_part_cuts.Goals as goal
 
 pub returns : goal.returns

@@ -6,7 +6,7 @@ use Rattle.mapdb_facts.specs.declared.operations.Op.{Op}
 use Rattle.mapdb_facts.specs.declared.operations.Record.{Record}
 use Rattle.mapdb_replica.specs.Issue.{holder_of}
 use Rattle.mapdb_replica.specs.Unmap.{holder_cuts}
-use Rattle.mapdb_replica.proofs.MeetingRecords.{listed_map}
+use Rattle.mapdb_replica.proofs.Unmaps.MeetingRecords.{listed_map}
 use Rattle.mapdb_replica.proofs.holder_cuts.add_record_cuts.Goals as goal
 
 pub returns : goal.returns

@@ -7,7 +7,7 @@ use Rattle.mapdb_facts.specs.declared.operations.Record.{Record}
 use Rattle.mapdb_rights.specs.Meeting.{holders_of}
 use Rattle.mapdb_replica.specs.Issue.{first_holders, holder_of}
 use Rattle.mapdb_replica.specs.Unmap.{holder_cuts}
-use Rattle.mapdb_replica.proofs.MeetingRecords.{cuts_held}
+use Rattle.mapdb_replica.proofs.Unmaps.MeetingRecords.{cuts_held}
 use Rattle.mapdb_replica.proofs.holder_cuts.cuts_by_holder.Goals as goal
 
 pub returns : goal.returns

@@ -8,8 +8,8 @@ use Rattle.mapdb_rights.specs.Meeting.{holds_part}
 use Rattle.mapdb_replica.specs.Fitting.{AllFitting, IsFitting}
 use Rattle.mapdb_replica.specs.Issue.{first_piece}
 use Rattle.mapdb_replica.specs.declared.pieces.Piece.{Piece}
-use Rattle.mapdb_replica.proofs.Gathering.{fitting-option, list-fitting, list_of, pieces-parts, pieces_of}
-use Rattle.mapdb_replica.proofs.MeetingRecords.{number_held, pieces_held, pieces_more}
+use Rattle.mapdb_replica.proofs.Maps.Gathering.{fitting-option, list-fitting, list_of, pieces-parts, pieces_of}
+use Rattle.mapdb_replica.proofs.Unmaps.MeetingRecords.{number_held, pieces_held, pieces_more}
 use Rattle.mapdb_replica.proofs.pieces.pieces_among.Goals as goal
 
 pub loop-mapping-init : goal.loop-mapping-init

@@ -3,7 +3,7 @@ use Rattle.mapdb_facts.specs.Facts.{records_of_facts, state_of_facts}
 use Rattle.mapdb_facts.specs.Records.{greatest_number}
 use Rattle.mapdb_replica.specs.Fitting.{AllFitting}
 use Rattle.mapdb_replica.specs.Issue.{first_piece}
-use Rattle.mapdb_replica.proofs.Gathering.{list_of, pieces_of}
+use Rattle.mapdb_replica.proofs.Maps.Gathering.{list_of, pieces_of}
 use Rattle.mapdb_replica.proofs.pieces.pieces_among.Given as goal
 
 -- the pieces of the root and of the records so far are found

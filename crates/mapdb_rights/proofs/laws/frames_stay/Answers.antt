@@ -1,4 +1,4 @@
-use Rattle.mapdb_rights.proofs.Frames.{frames_stay}
+use Rattle.mapdb_rights.proofs.Rights.Frames.{frames_stay}
 use Rattle.mapdb_rights.proofs.laws.frames_stay.Goals as goal
 
 pub returns : goal.returns

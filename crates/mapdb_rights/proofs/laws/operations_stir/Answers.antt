@@ -1,4 +1,4 @@
-use Rattle.mapdb_rights.proofs.Stirring.{operations_stir}
+use Rattle.mapdb_rights.proofs.Settling.Stirring.{operations_stir}
 use Rattle.mapdb_rights.proofs.laws.operations_stir.Goals as goal
 
 pub returns : goal.returns

@@ -1,6 +1,6 @@
 use Rattle.std.proofs.Common.{sym, ◌∙◌}
 use Rattle.mapdb_facts.specs.Facts.{state_of_facts}
-use Rattle.mapdb_rights.proofs.LiveRecords.{after_both, further_next, live_here, no_root, none_left}
+use Rattle.mapdb_rights.proofs.Live.LiveRecords.{after_both, further_next, live_here, no_root, none_left}
 use Rattle.mapdb_rights.proofs.live_records.record_after.Goals as goal
 
 pub records-init : goal.records-init

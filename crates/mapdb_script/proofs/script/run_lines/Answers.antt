@@ -10,7 +10,7 @@ use Rattle.mapdb_script.proofs.script.run_lines.Goals as goal
 pub loop-engine-init : goal.loop-engine-init
 loop-engine-init g c = record {
   few = omega (arith, ap (λ s. s.counts.lines) c.new-engine.ensures);
-  so_far = ([], [], Consumes-none _ _ c.in_ok-reading.ensures, passes-none _ _ _ refl, rw c.new-engine.ensures begins);
+  so_far = ([], [], Consumes-none _ _ c.in_ok-reading.ensures.0, passes-none _ _ _ refl, rw c.new-engine.ensures begins);
   reads = c.requires.reader_works;
   writes = c.requires.writer_works;
 }

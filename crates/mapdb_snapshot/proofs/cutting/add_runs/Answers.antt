@@ -5,10 +5,10 @@ use Rattle.mapdb_facts.specs.Adding.{cut_at}
 use Rattle.mapdb_facts.specs.Facts.{state_of_facts}
 use Rattle.mapdb_facts.specs.Runs.{cut_runs}
 use Rattle.mapdb_facts.specs.declared.runs.CutRun.{CutRun}
-use Rattle.mapdb_facts.proofs.CutRuns.{begins_behind, ends_behind}
+use Rattle.mapdb_facts.proofs.Maps.CutRuns.{begins_behind, ends_behind}
 use Rattle.mapdb_snapshot.specs.Cutting.{cuts_of_runs}
 use Rattle.mapdb_snapshot.specs.Snapshot.{cut_row}
-use Rattle.mapdb_snapshot.proofs.Adding.{run_added}
+use Rattle.mapdb_snapshot.proofs.Json.Adding.{run_added}
 use Rattle.serde_json.specs.View.{view}
 use Rattle.mapdb_snapshot.proofs.cutting.add_runs.Goals as goal
 

@@ -5,8 +5,8 @@ use Rattle.mapdb_facts.specs.declared.operations.Op.{Op}
 use Rattle.mapdb_cluster.specs.Net.{Net, with_copy}
 use Rattle.mapdb_cluster.specs.Steps.{Steps}
 use Rattle.mapdb_cluster.specs.declared.events.Event.TheVariants as event
-use Rattle.mapdb_cluster.proofs.Leaving.{deliver_left}
-use Rattle.mapdb_cluster.proofs.StepEvents.{deliver_step}
+use Rattle.mapdb_cluster.proofs.Steps.Leaving.{deliver_left}
+use Rattle.mapdb_cluster.proofs.Steps.StepEvents.{deliver_step}
 use Rattle.mapdb_cluster.proofs.clusters.Cluster.deliver.Goals as goal
 
 pub invariant_of-self : goal.invariant_of-self

@@ -4,8 +4,8 @@ use Rattle.std.specs.Prelude.{slice_get}
 use Rattle.mapdb_cluster.specs.Net.{Net, with_copy}
 use Rattle.mapdb_cluster.specs.Steps.{Steps}
 use Rattle.mapdb_cluster.specs.declared.events.Event.TheVariants as event
-use Rattle.mapdb_cluster.proofs.Leaving.{issue_left}
-use Rattle.mapdb_cluster.proofs.StepEvents.{issue_step}
+use Rattle.mapdb_cluster.proofs.Steps.Leaving.{issue_left}
+use Rattle.mapdb_cluster.proofs.Steps.StepEvents.{issue_step}
 use Rattle.mapdb_cluster.proofs.clusters.Cluster.issue.Goals as goal
 
 pub invariant_of-self : goal.invariant_of-self

@@ -8,8 +8,8 @@ use Rattle.mapdb_cluster.specs.Kept.{IsKeptNet}
 use Rattle.mapdb_cluster.specs.Net.{Net}
 use Rattle.mapdb_cluster.specs.Steps.{Steps}
 use Rattle.mapdb_cluster.specs.declared.events.Event.TheVariants as event
-use Rattle.mapdb_cluster.proofs.Leaving.{join_left}
-use Rattle.mapdb_cluster.proofs.StepEvents.{join_step}
+use Rattle.mapdb_cluster.proofs.Steps.Leaving.{join_left}
+use Rattle.mapdb_cluster.proofs.Steps.StepEvents.{join_step}
 use Rattle.mapdb_cluster.proofs.clusters.Cluster.join.Goals as goal
 
 pub invariant_of-self : goal.invariant_of-self

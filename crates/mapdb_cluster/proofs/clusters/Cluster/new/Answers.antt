@@ -2,7 +2,7 @@ use Rattle.std.proofs.Common.{List, [], subst, sym}
 use Rattle.mapdb_replica.specs.Replica.{Log}
 use Rattle.mapdb_facts.specs.declared.operations.Op.{Op}
 use Rattle.mapdb_cluster.specs.Kept.{IsKeptNet}
-use Rattle.mapdb_cluster.proofs.HonestRuns.{new_kept}
+use Rattle.mapdb_cluster.proofs.Moves.HonestRuns.{new_kept}
 use Rattle.mapdb_cluster.proofs.clusters.Cluster.new.Goals as goal
 
 pub invariant_of-result : goal.invariant_of-result

@@ -4,7 +4,7 @@ use Rattle.std.specs.Prelude.{is_ok, slice_get}
 use Rattle.mapdb_cluster.specs.Net.{Net}
 use Rattle.mapdb_cluster.specs.Steps.{Steps}
 use Rattle.mapdb_cluster.specs.declared.events.Event.TheVariants as event
-use Rattle.mapdb_cluster.proofs.Leaving.{message_sent, message_wanted, send_kept}
+use Rattle.mapdb_cluster.proofs.Steps.Leaving.{message_sent, message_wanted, send_kept}
 use Rattle.mapdb_cluster.proofs.clusters.Cluster.send.Goals as goal
 use Rattle.mapdb_cluster.proofs.clusters.Cluster.send.Goals.{in-Err, in-Ok-push}
 

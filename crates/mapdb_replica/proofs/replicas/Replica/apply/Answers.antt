@@ -1,5 +1,5 @@
 use Rattle.mapdb_replica.specs.Commands.{command_outcome}
-use Rattle.mapdb_replica.proofs.AppliedLemmas.{applied_few}
+use Rattle.mapdb_replica.proofs.Calls.AppliedLemmas.{applied_few}
 use Rattle.mapdb_replica.proofs.replicas.Replica.apply.Goals as goal
 
 pub returns-clause-few : goal.returns-clause-few

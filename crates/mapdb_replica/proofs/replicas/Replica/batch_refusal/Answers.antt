@@ -1,19 +1,18 @@
 use Rattle.std.proofs.Common.{◌≡◌, ◌∙◌, ◌+◌, ◌≤◌, ◌<◌, List, Some, refl, ap, arith, length, subst, sym, true}
-use Rattle.std.specs.Prelude.{Option, None, count_by}
+use Rattle.std.specs.Prelude.{Option, None}
 use Rattle.std.specs.List.{filter}
 use Rattle.std.specs.Option.{option_map, option_or}
 use Rattle.mapdb_facts.specs.Adding.{is_new}
 use Rattle.mapdb_facts.specs.Facts.{state_of_facts}
-use Rattle.mapdb_facts.specs.State.{IsSound, State, state_of}
+use Rattle.mapdb_facts.specs.State.{IsSound, state_of}
 use Rattle.mapdb_facts.specs.WellFormed.{all_formed}
 use Rattle.mapdb_facts.specs.declared.holding.Facts.{Facts}
 use Rattle.mapdb_facts.specs.declared.names.RecordId.{RecordId}
 use Rattle.mapdb_facts.specs.declared.operations.Op.{Op}
 use Rattle.mapdb_replica.specs.Replica.{Log, most_operations}
 use Rattle.mapdb_replica.specs.Taking.{least_clash, too_many}
-use Rattle.mapdb_replica.specs.declared.faults.TakeFault.{TakeFault}
 use Rattle.mapdb_replica.specs.declared.faults.TakeFault.TheVariants.{Clash}
-use Rattle.mapdb_replica.proofs.UnheldClashes.{clash_of_batch, count_of_batch, formed-filter, too_many_where}
+use Rattle.mapdb_replica.proofs.News.UnheldClashes.{clash_of_batch, count_of_batch, formed-filter, too_many_where}
 use Rattle.mapdb_replica.proofs.replicas.Replica.batch_refusal.Goals as goal
 
 pub least_clash-requires : goal.least_clash-requires

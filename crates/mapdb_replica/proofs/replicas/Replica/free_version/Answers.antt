@@ -1,5 +1,5 @@
 use Rattle.std.proofs.Common.{◌≤◌, ◌+◌, length, arith, sym, ◌∙◌}
-use Rattle.mapdb_replica.proofs.EndedVersions.{few_versions, first_version, one_more, root_version}
+use Rattle.mapdb_replica.proofs.Copies.EndedVersions.{few_versions, first_version, one_more, root_version}
 use Rattle.mapdb_replica.proofs.replicas.Replica.free_version.Goals as goal
 
 pub versions-preserved : goal.versions-preserved

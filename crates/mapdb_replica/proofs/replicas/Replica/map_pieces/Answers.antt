@@ -5,8 +5,8 @@ use Rattle.mapdb_replica.specs.Fitting.{held_pieces, piece_ops}
 use Rattle.mapdb_replica.specs.Issue.{numbered_records, rising_names}
 use Rattle.mapdb_replica.specs.Replica.{with_issued}
 use Rattle.mapdb_replica.specs.declared.pieces.Piece.{Piece}
-use Rattle.mapdb_replica.proofs.Issuing.{length-numbered, stands-start}
-use Rattle.mapdb_replica.proofs.Limits.{names-numbered}
+use Rattle.mapdb_replica.proofs.Calls.Issuing.{length-numbered, stands-start}
+use Rattle.mapdb_replica.proofs.Calls.Limits.{names-numbered}
 use Rattle.mapdb_replica.proofs.replicas.Replica.map_pieces.Goals as goal
 
 pub returns-in_default-clause-issues : goal.returns-in_default-clause-issues

@@ -3,7 +3,7 @@ use Rattle.std.specs.Prelude.{None}
 use Rattle.mapdb_facts.specs.Records.{greatest_number, records_of}
 use Rattle.mapdb_facts.specs.declared.operations.Op.{Op}
 use Rattle.mapdb_replica.specs.Fitting.{count_refusal, held_pieces, piece_ops, piece_refusal}
-use Rattle.mapdb_replica.proofs.Issuing.{length-numbered, wants_memory}
+use Rattle.mapdb_replica.proofs.Calls.Issuing.{length-numbered, wants_memory}
 use Rattle.mapdb_replica.proofs.replicas.Replica.map_unlisted.Goals as goal
 
 pub returns-else-count-eq0-clause-issues : goal.returns-else-count-eq0-clause-issues

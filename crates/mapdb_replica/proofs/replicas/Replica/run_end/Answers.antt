@@ -3,7 +3,7 @@ use Rattle.std.specs.Prelude.{Option}
 use Rattle.mapdb_replica.specs.Pairs.{Pair}
 use Rattle.mapdb_replica.specs.Running.{continues}
 use Rattle.mapdb_replica.specs.Served.{served}
-use Rattle.mapdb_replica.proofs.RunningPages.{longer}
+use Rattle.mapdb_replica.proofs.Pages.RunningPages.{longer}
 use Rattle.mapdb_replica.proofs.replicas.Replica.run_end.Goals as goal
 
 pub pages-preserved : goal.pages-preserved

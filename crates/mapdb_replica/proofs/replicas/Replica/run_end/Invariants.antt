@@ -1,7 +1,7 @@
 use Rattle.std.proofs.Common.{◌≤◌, ◌<◌, ◌-◌}
 use Rattle.mapdb_fpage.specs.Bounds.{page_limit}
 use Rattle.mapdb_replica.specs.Served.{served}
-use Rattle.mapdb_replica.proofs.RunningPages.{Runs}
+use Rattle.mapdb_replica.proofs.Pages.RunningPages.{Runs}
 use Rattle.mapdb_replica.proofs.replicas.Replica.run_end.Given as goal
 
 -- the pages so far belong to the run

@@ -5,8 +5,8 @@ use Rattle.std.proofs.Common.{ap, ◌∙◌}
 use Rattle.std.specs.Prelude.{Option}
 use Rattle.mapdb_replica.specs.FirstPairs.{with_later}
 use Rattle.mapdb_replica.specs.Pairs.{Pair}
-use Rattle.mapdb_replica.proofs.HolderWalks.{fewer_left}
-use Rattle.mapdb_replica.proofs.LiveHolders.{first_end, first_next, first_start}
+use Rattle.mapdb_replica.proofs.Pages.HolderWalks.{fewer_left}
+use Rattle.mapdb_replica.proofs.Pages.LiveHolders.{first_end, first_next, first_start}
 use Rattle.mapdb_replica.proofs.replicas.Replica.served_by_all.Goals as goal
 
 pub records-init : goal.records-init

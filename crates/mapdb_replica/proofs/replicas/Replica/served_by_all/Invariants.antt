@@ -4,7 +4,7 @@ use Rattle.mapdb_facts.specs.Records.{records_of}
 use Rattle.mapdb_facts.specs.State.{state_of}
 use Rattle.mapdb_replica.specs.FirstPairs.{first_from}
 use Rattle.mapdb_replica.specs.Issue.{holders}
-use Rattle.mapdb_replica.proofs.HolderWalks.{later}
+use Rattle.mapdb_replica.proofs.Pages.HolderWalks.{later}
 use Rattle.mapdb_replica.proofs.replicas.Replica.served_by_all.Given as goal
 
 -- with what the later holders have, it is what all have

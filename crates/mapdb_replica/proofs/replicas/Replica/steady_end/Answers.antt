@@ -4,7 +4,7 @@ use Rattle.mapdb_facts.specs.State.{State, state_of}
 use Rattle.mapdb_facts.specs.WellFormed.{all_formed}
 use Rattle.mapdb_rights.specs.Live.{ShowUntil}
 use Rattle.mapdb_replica.specs.Replica.{Log}
-use Rattle.mapdb_replica.proofs.RunningPages.{served_on}
+use Rattle.mapdb_replica.proofs.Pages.RunningPages.{served_on}
 use Rattle.mapdb_replica.proofs.replicas.Replica.steady_end.Goals as goal
 
 pub returns-clause-same : goal.returns-clause-same

@@ -7,8 +7,8 @@ use Rattle.mapdb_replica.specs.Replica.{Issues, Log, news}
 use Rattle.mapdb_replica.specs.Revoking.{Counts, cuts_of_place}
 use Rattle.mapdb_replica.specs.declared.faults.IssueFault.{IssueFault}
 use Rattle.mapdb_replica.specs.declared.faults.IssueFault.TheVariants.{Full, Memory}
-use Rattle.mapdb_replica.proofs.CutIssues.{limited-few, limited-many, no-news, some-news}
-use Rattle.mapdb_replica.proofs.Issuing.{stands-start}
+use Rattle.mapdb_replica.proofs.Unmaps.CutIssues.{limited-few, limited-many, no-news, some-news}
+use Rattle.mapdb_replica.proofs.Calls.Issuing.{stands-start}
 use Rattle.mapdb_replica.proofs.replicas.Replica.unmap_unlisted.Goals as goal
 
 pub returns-then-is_full-clause-issues : goal.returns-then-is_full-clause-issues

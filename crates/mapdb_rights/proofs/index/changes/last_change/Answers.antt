@@ -3,7 +3,7 @@ use Rattle.std.specs.Prelude.{Option}
 use Rattle.std.specs.Option.{option_copied}
 use Rattle.mapdb_rights.specs.declared.index.changes.Change.{Change}
 use Rattle.mapdb_rights.specs.OwnChanges.{IsLastUpTo}
-use Rattle.mapdb_rights.proofs.RecordChanges.{own_absent, own_found}
+use Rattle.mapdb_rights.proofs.Changes.RecordChanges.{own_absent, own_found}
 use Rattle.mapdb_rights.proofs.index.changes.last_change.Goals as goal
 
 pub returns-in-Some : goal.returns-in-Some

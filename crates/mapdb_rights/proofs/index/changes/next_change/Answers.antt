@@ -3,7 +3,7 @@ use Rattle.std.specs.Prelude.{Option}
 use Rattle.std.specs.Option.{option_copied}
 use Rattle.mapdb_rights.specs.declared.index.changes.Change.{Change}
 use Rattle.mapdb_rights.specs.OwnChanges.{IsNoneUntil}
-use Rattle.mapdb_rights.proofs.RecordChanges.{own_absent, own_found}
+use Rattle.mapdb_rights.proofs.Changes.RecordChanges.{own_absent, own_found}
 use Rattle.mapdb_rights.proofs.index.changes.next_change.Goals as goal
 
 pub returns-in-Some-clause-none : goal.returns-in-Some-clause-none

@@ -3,9 +3,9 @@ use Rattle.std.specs.Prelude.{None}
 use Rattle.std.specs.Map.{lookup}
 use Rattle.std.specs.Option.{option_copied_mut}
 use Rattle.mapdb_facts.specs.Names.{same_id}
-use Rattle.mapdb_rights.specs.Changes.{Changes, IsPut}
-use Rattle.mapdb_rights.proofs.RecordChanges.{put_changed, put_new}
-use Rattle.mapdb_rights.proofs.Results.{on_ok}
+use Rattle.mapdb_rights.specs.Changes.{PageChanges, IsPut}
+use Rattle.mapdb_rights.proofs.Changes.RecordChanges.{put_changed, put_new}
+use Rattle.mapdb_rights.proofs.Lists.Results.{on_ok}
 use Rattle.mapdb_rights.proofs.index.changes.put.Goals as goal
 
 pub returns-in-Some : goal.returns-in-Some
@@ -18,7 +18,7 @@ returns-in-Some c =
 pub returns : goal.returns
 returns c =
     let same : c.get_mut.follows.lender-at-none.entries ≡ c.args.own_changes.now.entries = λ i. (c.get_mut.follows.holds-at-none i).entries in
-    subst (λ (old : Changes). IsPut old c.args.id c.args.page c.args.change c.insert.new.self.entries) same
+    subst (λ (old : PageChanges). IsPut old c.args.id c.args.page c.args.change c.insert.new.self.entries) same
     (put_new c.get_mut.follows.lender-at-none.entries c.insert.new.self.entries c.args.id c.args.page c.args.change c.new-own.result c.put-2.new.self
     c.in_ok-insert.ensures.updates.0 c.in_ok-put.ensures c.new-own.ensures
-    (subst (λ (old : Changes). None ≡ lookup (same_id c.args.id) old) (sym same) (sym (ap option_copied_mut c.in_default.is) ∙ c.get_mut.ensures.value)))
+    (subst (λ (old : PageChanges). None ≡ lookup (same_id c.args.id) old) (sym same) (sym (ap option_copied_mut c.in_default.is) ∙ c.get_mut.ensures.value)))

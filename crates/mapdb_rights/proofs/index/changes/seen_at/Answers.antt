@@ -2,9 +2,9 @@ use Rattle.std.proofs.Common.{◌≤◌, sym, ◌∙◌, arith}
 use Rattle.std.proofs.lemmas.Bool.{cond-true, lt-ltb}
 use Rattle.mapdb_fpage.specs.Bounds.{page_limit}
 use Rattle.mapdb_fpage.specs.Place.{is_page}
-use Rattle.mapdb_rights.specs.Changes.{at_first, beyond, change_at, changed}
-use Rattle.mapdb_rights.proofs.LastChanges.{changed-none}
-use Rattle.mapdb_rights.proofs.Writing.{seen_here, seen_stays}
+use Rattle.mapdb_rights.specs.Changes.{at_first, past_the_end, change_at, changed}
+use Rattle.mapdb_rights.proofs.Changes.LastChanges.{changed-none}
+use Rattle.mapdb_rights.proofs.Changes.Writing.{seen_here, seen_stays}
 use Rattle.mapdb_rights.proofs.index.changes.seen_at.Goals as goal
 
 pub returns-in-Some : goal.returns-in-Some
@@ -16,5 +16,5 @@ returns-in-Some c =
 pub returns-in-None : goal.returns-in-None
 returns-in-None c =
     c.first_change.ensures
-    ∙ sym (cond-true (is_page c.args.page) (changed (change_at c.args.changes.now.own.entries c.args.id) (at_first c.args.id) c.args.page) beyond (lt-ltb c.args.page page_limit (omega arith))
+    ∙ sym (cond-true (is_page c.args.page) (changed (change_at c.args.changes.now.own.entries c.args.id) (at_first c.args.id) c.args.page) past_the_end (lt-ltb c.args.page page_limit (omega arith))
     ∙ changed-none (change_at c.args.changes.now.own.entries c.args.id) (at_first c.args.id) c.args.page c.in-None.ensures)

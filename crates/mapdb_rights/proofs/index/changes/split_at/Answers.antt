@@ -1,9 +1,9 @@
 use Rattle.std.proofs.Common.{◌≡◌, ◌≤◌, ◌<◌, ℕ, None, ◌∙◌, sym, subst, arith, inl, inr}
 use Rattle.std.specs.Prelude.{◌⊎◌}
 use Rattle.mapdb_rights.specs.Changes.{change_at}
-use Rattle.mapdb_rights.proofs.RecordChanges.{none_from}
-use Rattle.mapdb_rights.proofs.Results.{on_ok}
-use Rattle.mapdb_rights.proofs.Writing.{put_is_some, put_other_page, same_everywhere}
+use Rattle.mapdb_rights.proofs.Changes.RecordChanges.{none_from}
+use Rattle.mapdb_rights.proofs.Lists.Results.{on_ok}
+use Rattle.mapdb_rights.proofs.Changes.Writing.{put_is_some, put_other_page, same_everywhere}
 use Rattle.mapdb_rights.proofs.index.changes.split_at.Goals as goal
 
 at_or_before : (q end : ℕ) → q ≤ end → (q ≡ end) ⊎ (q < end)

@@ -1,5 +1,5 @@
 use Rattle.std.proofs.Common.{arith}
-use Rattle.mapdb_rights.proofs.Writing.{seen_stays}
+use Rattle.mapdb_rights.proofs.Changes.Writing.{seen_stays}
 use Rattle.mapdb_rights.proofs.index.changes.unchanged_until.Goals as goal
 
 pub returns-clause-same : goal.returns-clause-same

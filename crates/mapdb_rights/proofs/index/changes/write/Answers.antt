@@ -3,8 +3,8 @@ use Rattle.std.specs.Prelude.{if◌then◌else◌}
 use Rattle.mapdb_rights.specs.declared.index.changes.Change.{Change}
 use Rattle.mapdb_rights.specs.Caching.{covers}
 use Rattle.mapdb_rights.specs.Changes.{seen_in}
-use Rattle.mapdb_rights.proofs.Results.{on_ok}
-use Rattle.mapdb_rights.proofs.Writing.{given_everywhere}
+use Rattle.mapdb_rights.proofs.Lists.Results.{on_ok}
+use Rattle.mapdb_rights.proofs.Changes.Writing.{given_everywhere}
 use Rattle.mapdb_rights.proofs.index.changes.write.Goals as goal
 
 pub returns-clause-seen : goal.returns-clause-seen

@@ -2,7 +2,7 @@ use Rattle.std.proofs.Common.{◌≤◌, ◌<◌, ◌+◌, ◌-◌, refl, arith}
 use Rattle.std.specs.Prelude.{nat_eq}
 use Rattle.std.proofs.lemmas.Bool.{and_from, eq-eqb, lt-ltb, le-leb}
 use Rattle.mapdb_fpage.proofs.Meets.{holds_range}
-use Rattle.mapdb_rights.proofs.Pendings.{pending_front, pending_last, weight_one_more}
+use Rattle.mapdb_rights.proofs.Settling.Pendings.{pending_front, pending_last, weight_one_more}
 use Rattle.mapdb_rights.proofs.index.children.push_child.Goals as goal
 
 pub returns-clause-kept : goal.returns-clause-kept

@@ -4,13 +4,13 @@ use Rattle.mapdb_facts.specs.Facts.{state_of_facts}
 use Rattle.mapdb_facts.specs.Names.{same_id}
 use Rattle.mapdb_facts.specs.State.{State}
 use Rattle.mapdb_facts.specs.declared.names.RecordId.{RecordId}
-use Rattle.mapdb_facts.proofs.SameNames.{same_id_itself}
+use Rattle.mapdb_facts.proofs.Lists.SameNames.{same_id_itself}
 use Rattle.mapdb_rights.specs.declared.index.places.Listed.{Listed}
 use Rattle.mapdb_rights.specs.declared.index.places.Owner.TheVariants as owners
 use Rattle.mapdb_rights.specs.Listing.{left_above, listed_len, source_of}
 use Rattle.mapdb_rights.specs.Pending.{IsPending, share, weight}
-use Rattle.mapdb_rights.proofs.Entries.{fewer_above}
-use Rattle.mapdb_rights.proofs.Sweeps.{counted_on, next_or_later, source_meets}
+use Rattle.mapdb_rights.proofs.Lists.Entries.{fewer_above}
+use Rattle.mapdb_rights.proofs.Places.Sweeps.{counted_on, next_or_later, source_meets}
 use Rattle.mapdb_rights.proofs.index.children.push_children.Goals as goal
 
 pub children-preserved : goal.children-preserved

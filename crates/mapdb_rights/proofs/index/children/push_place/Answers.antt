@@ -3,8 +3,8 @@ use Rattle.std.specs.Prelude.{◌&&◌, nat_le, nat_lt}
 use Rattle.std.proofs.lemmas.Bool.{and_from}
 use Rattle.mapdb_fpage.specs.Place.{holds}
 use Rattle.mapdb_facts.specs.Names.{same_id}
-use Rattle.mapdb_facts.proofs.SameNames.{same_id_itself, some_same}
-use Rattle.mapdb_rights.proofs.Pendings.{pending_front, pending_last}
+use Rattle.mapdb_facts.proofs.Lists.SameNames.{same_id_itself, some_same}
+use Rattle.mapdb_rights.proofs.Settling.Pendings.{pending_front, pending_last}
 use Rattle.mapdb_rights.proofs.index.children.push_place.Goals as goal
 
 pub returns-in_ok-push-clause-kept : goal.returns-in_ok-push-clause-kept

@@ -8,8 +8,8 @@ use Rattle.mapdb_rights.specs.declared.index.places.Listed.{Listed}
 use Rattle.mapdb_rights.specs.declared.index.places.Owner.TheVariants as owners
 use Rattle.mapdb_rights.specs.Listing.{place_of}
 use Rattle.mapdb_rights.specs.Pending.{IsPending}
-use Rattle.mapdb_rights.proofs.Entries.{fewer_above}
-use Rattle.mapdb_rights.proofs.Sweeps.{next_or_later, place_meets}
+use Rattle.mapdb_rights.proofs.Lists.Entries.{fewer_above}
+use Rattle.mapdb_rights.proofs.Places.Sweeps.{next_or_later, place_meets}
 use Rattle.mapdb_rights.proofs.index.children.push_space.Goals as goal
 
 pub places-preserved : goal.places-preserved

@@ -2,7 +2,7 @@ use Rattle.std.proofs.Common.{ℕ, ◌+◌, sym, subst, take}
 use Rattle.std.specs.Prelude.{Option}
 use Rattle.mapdb_rights.specs.declared.index.changes.Change.{Change}
 use Rattle.mapdb_rights.specs.OwnChanges.{IsLastUpTo, listed_change}
-use Rattle.mapdb_rights.proofs.FewChanges.{last_step}
+use Rattle.mapdb_rights.proofs.Changes.FewChanges.{last_step}
 use Rattle.mapdb_rights.proofs.index.few_changes.few_last.Goals as goal
 
 pub loop-next-preserved : goal.loop-next-preserved

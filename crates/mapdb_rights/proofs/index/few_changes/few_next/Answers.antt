@@ -1,6 +1,6 @@
 use Rattle.std.proofs.Common.{◌≤◌, arith}
 use Rattle.mapdb_fpage.specs.Bounds.{page_limit}
-use Rattle.mapdb_rights.proofs.FewChanges.{none_step}
+use Rattle.mapdb_rights.proofs.Changes.FewChanges.{none_step}
 use Rattle.mapdb_rights.proofs.index.few_changes.few_next.Goals as goal
 
 pub loop-next-preserved : goal.loop-next-preserved

@@ -3,7 +3,7 @@ use Rattle.std.specs.Prelude.{None, slice_set}
 use Rattle.std.proofs.lemmas.List.{length-set}
 use Rattle.mapdb_rights.specs.declared.index.few_changes.PageChange.{PageChange}
 use Rattle.mapdb_rights.specs.OwnChanges.{IsFirstAt, listed_change}
-use Rattle.mapdb_rights.proofs.FewChanges.{put_behind, put_over, refilled}
+use Rattle.mapdb_rights.proofs.Changes.FewChanges.{put_behind, put_over, refilled}
 use Rattle.mapdb_rights.proofs.index.few_changes.few_put.Goals as goal
 
 pub returns-in-Some : goal.returns-in-Some

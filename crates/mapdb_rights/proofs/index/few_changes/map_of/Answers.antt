@@ -1,4 +1,4 @@
-use Rattle.mapdb_rights.proofs.FewChanges.{mapped_step}
+use Rattle.mapdb_rights.proofs.Changes.FewChanges.{mapped_step}
 use Rattle.mapdb_rights.proofs.index.few_changes.map_of.Goals as goal
 
 pub loop-next-preserved : goal.loop-next-preserved

@@ -1,5 +1,5 @@
 use Rattle.std.proofs.Common.{arith}
-use Rattle.mapdb_rights.proofs.FewChanges.{apart_step}
+use Rattle.mapdb_rights.proofs.Changes.FewChanges.{apart_step}
 use Rattle.mapdb_rights.proofs.index.few_changes.spot_of.Goals as goal
 
 pub changes-preserved : goal.changes-preserved

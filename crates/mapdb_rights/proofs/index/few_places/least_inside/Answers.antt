@@ -3,7 +3,7 @@ use Rattle.std.specs.Prelude.{Option}
 use Rattle.std.specs.BTreeMap.Range.{is_from_start}
 use Rattle.mapdb_rights.specs.declared.index.own_places.OwnPlace.{OwnPlace}
 use Rattle.mapdb_rights.specs.OwnPlaces.{IsFirstPlaceWhere, place_cmp}
-use Rattle.mapdb_rights.proofs.LeastPlaces.{least_step}
+use Rattle.mapdb_rights.proofs.Places.LeastPlaces.{least_step}
 use Rattle.mapdb_rights.proofs.index.few_places.least_inside.Goals as goal
 
 pub loop-place-preserved : goal.loop-place-preserved

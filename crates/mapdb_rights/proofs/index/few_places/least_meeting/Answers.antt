@@ -2,7 +2,7 @@ use Rattle.std.proofs.Common.{◌+◌, sym, subst, take}
 use Rattle.std.specs.Prelude.{Option}
 use Rattle.mapdb_rights.specs.declared.index.own_places.OwnPlace.{OwnPlace}
 use Rattle.mapdb_rights.specs.OwnPlaces.{IsFirstPlaceWhere, is_next}
-use Rattle.mapdb_rights.proofs.LeastPlaces.{item_stands, least_step}
+use Rattle.mapdb_rights.proofs.Places.LeastPlaces.{item_stands, least_step}
 use Rattle.mapdb_rights.proofs.index.few_places.least_meeting.Goals as goal
 
 pub lesser_meeting-found-requires : goal.lesser_meeting-found-requires

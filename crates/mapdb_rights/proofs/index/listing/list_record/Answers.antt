@@ -2,7 +2,7 @@ use Rattle.std.proofs.Common.{◌≡◌, true, subst, ◌∙◌, inl, inr}
 use Rattle.mapdb_rights.specs.Listing.{is_listed, source_of}
 use Rattle.mapdb_rights.specs.declared.index.places.Listed.{Listed}
 use Rattle.mapdb_rights.specs.declared.index.places.Owner.TheVariants.{Record, Space}
-use Rattle.mapdb_rights.proofs.Results.{on_both, on_ok}
+use Rattle.mapdb_rights.proofs.Lists.Results.{on_both, on_ok}
 use Rattle.mapdb_rights.proofs.index.listing.list_record.Goals as goal
 
 pub returns-clause-there : goal.returns-clause-there

@@ -3,7 +3,7 @@ use Rattle.std.specs.Prelude.{None}
 use Rattle.mapdb_facts.specs.Facts.{records_of_facts, state_of_facts}
 use Rattle.mapdb_facts.specs.declared.names.RecordId.{RecordId}
 use Rattle.mapdb_rights.specs.Live.{live_names}
-use Rattle.mapdb_rights.proofs.LiveLists.{all_found, behind_none, fewer_left, names_behind, next_found}
+use Rattle.mapdb_rights.proofs.Live.LiveLists.{all_found, behind_none, fewer_left, names_behind, next_found}
 use Rattle.mapdb_rights.proofs.index.live_names.all_live.Goals as goal
 
 pub names-init : goal.names-init

@@ -1,7 +1,7 @@
 use Rattle.std.proofs.Common.{◌≡◌, ◌++◌, length}
 use Rattle.mapdb_facts.specs.Facts.{records_of_facts, state_of_facts}
 use Rattle.mapdb_rights.specs.Live.{live_names}
-use Rattle.mapdb_rights.proofs.LiveLists.{names_behind}
+use Rattle.mapdb_rights.proofs.Live.LiveLists.{names_behind}
 use Rattle.mapdb_rights.proofs.index.live_names.all_live.Given as goal
 
 -- the names so far with those that are left

@@ -1,5 +1,5 @@
 use Rattle.mapdb_facts.specs.Facts.{state_of_facts}
-use Rattle.mapdb_rights.proofs.LiveOrders.{Swept, orders_behind}
+use Rattle.mapdb_rights.proofs.Live.LiveOrders.{Swept, orders_behind}
 use Rattle.mapdb_rights.proofs.index.live_names.live_after.Given as goal
 
 -- the least of what was passed is found

@@ -5,7 +5,7 @@ use Rattle.mapdb_facts.specs.Names.{is_after}
 use Rattle.mapdb_rights.specs.Among.{behind_name}
 use Rattle.mapdb_rights.specs.Listing.{IsFirstInside}
 use Rattle.mapdb_rights.specs.declared.index.places.Listed.{Listed}
-use Rattle.mapdb_rights.proofs.PlaceNames.{name_found, none_there, stands_there}
+use Rattle.mapdb_rights.proofs.Places.PlaceNames.{name_found, none_there, stands_there}
 use Rattle.mapdb_rights.proofs.index.live_names.name_after.Goals as goal
 
 pub returns-in-Some : goal.returns-in-Some

@@ -1,10 +1,10 @@
 use Rattle.std.proofs.Common.{sym, ◌∙◌}
 use Rattle.mapdb_facts.specs.Facts.{state_of_facts}
 use Rattle.mapdb_rights.specs.Among.{under}
-use Rattle.mapdb_rights.proofs.Entries.{fewer_above}
-use Rattle.mapdb_rights.proofs.Followed.{listed_into}
-use Rattle.mapdb_rights.proofs.PlaceNames.{entry_above, entry_of}
-use Rattle.mapdb_rights.proofs.ShownNames.{further_next, none_shown, shown_here}
+use Rattle.mapdb_rights.proofs.Lists.Entries.{fewer_above}
+use Rattle.mapdb_rights.proofs.Settling.Followed.{listed_into}
+use Rattle.mapdb_rights.proofs.Places.PlaceNames.{entry_above, entry_of}
+use Rattle.mapdb_rights.proofs.Live.ShownNames.{further_next, none_shown, shown_here}
 use Rattle.mapdb_rights.proofs.index.live_names.shown_after.Goals as goal
 
 pub is_shown-requires : goal.is_shown-requires

@@ -1,7 +1,7 @@
 use Rattle.mapdb_facts.specs.Facts.{state_of_facts}
 use Rattle.mapdb_rights.specs.Listing.{left_above}
-use Rattle.mapdb_rights.proofs.PlaceNames.{entry_of}
-use Rattle.mapdb_rights.proofs.ShownNames.{Further}
+use Rattle.mapdb_rights.proofs.Places.PlaceNames.{entry_of}
+use Rattle.mapdb_rights.proofs.Live.ShownNames.{Further}
 use Rattle.mapdb_rights.proofs.index.live_names.shown_after.Given as goal
 
 -- none of those that are left out has a right at the page

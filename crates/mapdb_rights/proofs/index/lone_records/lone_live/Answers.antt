@@ -6,9 +6,9 @@ use Rattle.mapdb_rights.specs.Among.{is_shown}
 use Rattle.mapdb_rights.specs.Changes.{seen_in}
 use Rattle.mapdb_rights.specs.Lone.{IsLone, IsLoneFound, IsToldBy, lone_where}
 use Rattle.mapdb_rights.specs.declared.index.lone_records.Lone.{Lone}
-use Rattle.mapdb_rights.proofs.Entries.{fewer_above}
-use Rattle.mapdb_rights.proofs.Followed.{listed_into}
-use Rattle.mapdb_rights.proofs.LoneRecords.{ArePassed, all_passed, found_next, passed_next, within_kept}
+use Rattle.mapdb_rights.proofs.Lists.Entries.{fewer_above}
+use Rattle.mapdb_rights.proofs.Settling.Followed.{listed_into}
+use Rattle.mapdb_rights.proofs.Live.LoneRecords.{ArePassed, all_passed, found_next, passed_next, within_kept}
 use Rattle.mapdb_rights.proofs.index.lone_records.lone_live.Goals as goal
 
 pub with_record-found-requires : goal.with_record-found-requires
@@ -54,6 +54,17 @@ returns-then-next c =
     (λ live. within_kept (is_shown S space page entry.id) entry.id (seen_in changes entry.id page) c.entries.found root (c.entries.invariant.top live))
     (found_next S changes space page c.args.listed.now c.requires.listed_there.named c.requires.listed_there.formed c.requires.listed_there entry.id c.entries.found c.entries.invariant.found)
     (passed_next S changes space page c.args.listed.now c.saturating_add-end.result c.entries.passed entry c.entries.found c.in-Some.ensures.next c.entries.invariant.passed))
+
+pub returns-in-Several : goal.returns-in-Several
+returns-in-Several c =
+    let S = state_of_facts c.args.facts.now in
+    let changes = c.args.changes.now.own.entries in
+    let entry = c.in-Some.next.entry in
+    record {
+      found = subst (λ (f : Lone). IsLoneFound S changes c.args.space c.args.page f) (sym c.in-Several.ensures)
+          (found_next S changes c.args.space c.args.page c.args.listed.now c.requires.listed_there.named c.requires.listed_there.formed c.requires.listed_there entry.id c.entries.found c.entries.invariant.found);
+      all = λ id live. tt;
+    }
 
 pub returns : goal.returns
 returns c =

@@ -6,7 +6,7 @@ use Rattle.mapdb_rights.specs.Listing.{left_above}
 use Rattle.mapdb_rights.specs.Live.{IsLive}
 use Rattle.mapdb_rights.specs.Lone.{IsLoneFound, IsToldBy}
 use Rattle.mapdb_rights.specs.declared.index.places.Owner.TheVariants as owners
-use Rattle.mapdb_rights.proofs.LoneRecords.{ArePassed}
+use Rattle.mapdb_rights.proofs.Live.LoneRecords.{ArePassed}
 use Rattle.mapdb_rights.proofs.index.lone_records.lone_live.Given as goal
 
 -- those of the entries that were passed are among what was found

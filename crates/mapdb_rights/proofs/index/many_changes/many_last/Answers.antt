@@ -1,4 +1,4 @@
-use Rattle.mapdb_rights.proofs.ManyChanges.{last_shown}
+use Rattle.mapdb_rights.proofs.Changes.ManyChanges.{last_shown}
 use Rattle.mapdb_rights.proofs.index.many_changes.many_last.Goals as goal
 
 pub returns-in-Some : goal.returns-in-Some

@@ -1,5 +1,5 @@
 use Rattle.std.proofs.Common.{arith}
-use Rattle.mapdb_rights.proofs.ManyChanges.{next_shown}
+use Rattle.mapdb_rights.proofs.Changes.ManyChanges.{next_shown}
 use Rattle.mapdb_rights.proofs.index.many_changes.many_next.Goals as goal
 
 pub returns-in-Some-clause-none : goal.returns-in-Some-clause-none

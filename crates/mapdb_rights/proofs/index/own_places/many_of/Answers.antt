@@ -1,4 +1,4 @@
-use Rattle.mapdb_rights.proofs.LeastPlaces.{many_step}
+use Rattle.mapdb_rights.proofs.Places.LeastPlaces.{many_step}
 use Rattle.mapdb_rights.proofs.index.own_places.many_of.Goals as goal
 
 pub loop-place-preserved : goal.loop-place-preserved

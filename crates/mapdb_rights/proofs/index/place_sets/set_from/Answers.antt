@@ -3,7 +3,7 @@ use Rattle.std.specs.BTreeSet.{IsKeyRangeOf}
 use Rattle.std.specs.declared.ops.Bound.TheVariants.{Included, Unbounded}
 use Rattle.mapdb_rights.specs.declared.index.own_places.OwnPlace.{OwnPlace}
 use Rattle.mapdb_rights.specs.OwnPlaces.{place_cmp}
-use Rattle.mapdb_rights.proofs.LeastPlaces.{first_shown, second_none, second_shown}
+use Rattle.mapdb_rights.proofs.Places.LeastPlaces.{first_shown, second_none, second_shown}
 use Rattle.mapdb_rights.proofs.index.place_sets.set_from.Goals as goal
 
 pub returns-in-Some-next-clause-least : goal.returns-in-Some-next-clause-least

@@ -6,8 +6,8 @@ use Rattle.std.specs.Option.{option_copied_mut}
 use Rattle.mapdb_rights.specs.declared.index.own_places.OwnPlaces.{OwnPlaces}
 use Rattle.mapdb_rights.specs.declared.index.places.Owner.{Owner}
 use Rattle.mapdb_rights.specs.Listing.{is_among, listed_cmp}
-use Rattle.mapdb_rights.proofs.OwnersPlaces.{derived_eq, put_changed, put_new}
-use Rattle.mapdb_rights.proofs.Results.{on_ok}
+use Rattle.mapdb_rights.proofs.Places.OwnersPlaces.{derived_eq, put_changed, put_new}
+use Rattle.mapdb_rights.proofs.Lists.Results.{on_ok}
 use Rattle.mapdb_rights.proofs.index.places.put.Goals as goal
 
 pub returns-in-Some : goal.returns-in-Some

@@ -1,4 +1,4 @@
-use Rattle.mapdb_rights.proofs.Pendings.{pending_front, pending_last, weight-last}
+use Rattle.mapdb_rights.proofs.Settling.Pendings.{pending_front, pending_last, weight-last}
 use Rattle.std.proofs.Common.{arith}
 use Rattle.mapdb_rights.proofs.index.settling.keep_rest.Goals as goal
 

@@ -4,8 +4,8 @@ use Rattle.std.proofs.lemmas.Result.{IfOk-weaker}
 use Rattle.mapdb_facts.specs.WellFormed.{IsFormedRecord}
 use Rattle.mapdb_facts.specs.declared.operations.Record.{Record}
 use Rattle.mapdb_rights.specs.Meeting.{shares_part}
-use Rattle.mapdb_rights.proofs.NamedRecords.{all_filtered}
-use Rattle.mapdb_rights.proofs.SharedPlaces.{sharing_is_all}
+use Rattle.mapdb_rights.proofs.Lists.NamedRecords.{all_filtered}
+use Rattle.mapdb_rights.proofs.Places.SharedPlaces.{sharing_is_all}
 use Rattle.mapdb_rights.proofs.index.sharing.all_sharing.Goals as goal
 
 pub returns-clause-sharing : goal.returns-clause-sharing

@@ -2,13 +2,13 @@ use Rattle.std.proofs.Common.{◌≡◌, true, refl, sym, ap, subst, ◌∙◌, 
 use Rattle.std.specs.BTreeMap.{is_at}
 use Rattle.std.specs.BTreeSet.{contains}
 use Rattle.std.proofs.lemmas.Bool.{cases_Bool, cond-false, cond-true, true≢false}
-use Rattle.mapdb_facts.proofs.Comparing.{id_at}
-use Rattle.mapdb_facts.proofs.SameNames.{same_id_itself}
+use Rattle.mapdb_facts.proofs.Lists.Comparing.{id_at}
+use Rattle.mapdb_facts.proofs.Lists.SameNames.{same_id_itself}
 use Rattle.mapdb_facts.specs.Kept.{id_cmp}
 use Rattle.mapdb_facts.specs.declared.names.RecordId.{RecordId}
 use Rattle.mapdb_rights.specs.declared.index.places.Listed.{Listed}
-use Rattle.mapdb_rights.proofs.Entries.{fewer_above}
-use Rattle.mapdb_rights.proofs.Sweeps.{next_or_later}
+use Rattle.mapdb_rights.proofs.Lists.Entries.{fewer_above}
+use Rattle.mapdb_rights.proofs.Places.Sweeps.{next_or_later}
 use Rattle.mapdb_rights.proofs.index.sharing.names_meeting.Goals as goal
 
 pub entries-init : goal.entries-init

@@ -5,7 +5,7 @@ use Rattle.mapdb_facts.specs.Names.{is_first_space, root}
 use Rattle.mapdb_rights.specs.Changes.{cached_in}
 use Rattle.mapdb_rights.specs.Listing.{left_above}
 use Rattle.mapdb_rights.specs.declared.index.places.Owner.TheVariants as owners
-use Rattle.mapdb_rights.proofs.ShownRuns.{Passed, Stays}
+use Rattle.mapdb_rights.proofs.Steady.ShownRuns.{Passed, Stays}
 use Rattle.mapdb_rights.proofs.index.shown_runs.show_until.Given as goal
 
 -- what was passed goes on up to the end

@@ -9,11 +9,11 @@ use Rattle.mapdb_facts.specs.declared.names.RecordId.{RecordId}
 use Rattle.mapdb_fpage.specs.Place.{holds}
 use Rattle.mapdb_fpage.specs.RightSets.{common, is_empty, without}
 use Rattle.mapdb_rights.specs.Right.{reaches, source_page}
-use Rattle.mapdb_rights.proofs.FramesFrom.{up_frame, up_has}
-use Rattle.mapdb_rights.proofs.SourcePages.{parent_before}
+use Rattle.mapdb_rights.proofs.Rights.FramesFrom.{up_frame, up_has}
+use Rattle.mapdb_rights.proofs.Rights.SourcePages.{parent_before}
 use Rattle.mapdb_rights.specs.Caching.{Cached}
 use Rattle.mapdb_rights.specs.Changes.{cached_in, seen_in}
-use Rattle.mapdb_rights.proofs.FromParents.{from_up}
+use Rattle.mapdb_rights.proofs.Rights.FromParents.{from_up}
 use Rattle.mapdb_rights.proofs.index.stepping.change_from.Goals as goal
 
 pub returns-clause-rights : goal.returns-clause-rights

@@ -1,5 +1,5 @@
 use Rattle.mapdb_facts.specs.Facts.{state_of_facts}
-use Rattle.mapdb_rights.proofs.FramesFrom.{root_frame}
+use Rattle.mapdb_rights.proofs.Rights.FramesFrom.{root_frame}
 use Rattle.mapdb_rights.proofs.index.stepping.root_change.Goals as goal
 
 pub returns-clause-frame : goal.returns-clause-frame

@@ -9,8 +9,8 @@ use Rattle.mapdb_facts.specs.State.{State}
 use Rattle.mapdb_facts.specs.declared.names.RecordId.{RecordId}
 use Rattle.mapdb_rights.specs.Changes.{seen_in}
 use Rattle.mapdb_rights.specs.Right.{source_page}
-use Rattle.mapdb_rights.proofs.FramesFrom.{root_frame_on, up_frame_on}
-use Rattle.mapdb_rights.proofs.SourcePages.{parent_before}
+use Rattle.mapdb_rights.proofs.Rights.FramesFrom.{root_frame_on, up_frame_on}
+use Rattle.mapdb_rights.proofs.Rights.SourcePages.{parent_before}
 use Rattle.mapdb_rights.proofs.index.stepping.steady_end.Goals as goal
 
 pub returns-then-is_root-clause-frames : goal.returns-then-is_root-clause-frames

@@ -2,7 +2,7 @@ use Rattle.std.proofs.Common.{◌<◌, sym, subst, arith}
 use Rattle.std.specs.Prelude.{Option, option_map}
 use Rattle.mapdb_rights.specs.declared.index.own_places.OwnPlace.{OwnPlace}
 use Rattle.mapdb_rights.specs.OwnPlaces.{HasReached, spot_place}
-use Rattle.mapdb_rights.proofs.Meetings.{begin_least, pass_end}
+use Rattle.mapdb_rights.proofs.Places.Meetings.{begin_least, pass_end}
 use Rattle.mapdb_rights.proofs.index.many_places.ManyPlaces.begin.Goals as goal
 
 pub returns-in_default-clause-reached : goal.returns-in_default-clause-reached

@@ -2,7 +2,7 @@ use Rattle.std.proofs.Common.{◌≡◌, ◌≤◌, ap, subst, ◌∙◌, arith}
 use Rattle.std.specs.Prelude.{Option, Some, not}
 use Rattle.mapdb_rights.specs.declared.index.own_places.OwnPlace.{OwnPlace}
 use Rattle.mapdb_rights.specs.OwnPlaces.{IsFirstPlaceWhere, IsLeastPlace, is_beyond}
-use Rattle.mapdb_rights.proofs.Meetings.{last_of_order, no_order}
+use Rattle.mapdb_rights.proofs.Places.Meetings.{last_of_order, no_order}
 use Rattle.mapdb_rights.proofs.index.many_places.ManyPlaces.is_last.Goals.{then-next-order+else-next-end, else-next-order}
 use Rattle.mapdb_rights.proofs.index.many_places.ManyPlaces.is_last.Goals as goal
 

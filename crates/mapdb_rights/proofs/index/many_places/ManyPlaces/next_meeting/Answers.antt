@@ -2,7 +2,7 @@ use Rattle.std.proofs.Common.{◌≡◌, false, sym, subst, ◌∙◌}
 use Rattle.std.specs.Prelude.{Option, option_map}
 use Rattle.mapdb_rights.specs.declared.index.place_sets.Spot.{Spot}
 use Rattle.mapdb_rights.specs.OwnPlaces.{HasReached, IsReachedAbove, own_meets, spot_place}
-use Rattle.mapdb_rights.proofs.Meetings.{reached_on}
+use Rattle.mapdb_rights.proofs.Places.Meetings.{reached_on}
 use Rattle.mapdb_rights.proofs.index.many_places.ManyPlaces.next_meeting.Goals as goal
 
 pub orders-preserved : goal.orders-preserved

@@ -4,7 +4,7 @@ use Rattle.std.specs.BTreeMap.Range.{is_from_start}
 use Rattle.std.specs.declared.ops.Bound.TheVariants.{Included}
 use Rattle.mapdb_rights.specs.declared.index.own_places.OwnPlace.{OwnPlace}
 use Rattle.mapdb_rights.specs.OwnPlaces.{IsFirstPlaceWhere, own_pages, place_cmp, spot_place}
-use Rattle.mapdb_rights.proofs.Meetings.{ends_before, fewer_end, fewer_low, pass_end, pass_low}
+use Rattle.mapdb_rights.proofs.Places.Meetings.{ends_before, fewer_end, fewer_low, pass_end, pass_low}
 use Rattle.mapdb_rights.proofs.index.many_places.ManyPlaces.pass.Goals as goal
 
 pub returns-then-place-end-clause-reached : goal.returns-then-place-end-clause-reached

@@ -4,7 +4,7 @@ use Rattle.std.specs.BTreeMap.Range.{is_from_start}
 use Rattle.std.specs.declared.ops.Bound.TheVariants.{Included}
 use Rattle.mapdb_rights.specs.declared.index.own_places.OwnPlace.{OwnPlace}
 use Rattle.mapdb_rights.specs.OwnPlaces.{IsFirstPlaceWhere, place_cmp, spot_place}
-use Rattle.mapdb_rights.proofs.Meetings.{first_reached}
+use Rattle.mapdb_rights.proofs.Places.Meetings.{first_reached}
 use Rattle.mapdb_rights.proofs.index.many_places.ManyPlaces.reach.Goals as goal
 
 pub returns-in-Some-clause-reached : goal.returns-in-Some-clause-reached

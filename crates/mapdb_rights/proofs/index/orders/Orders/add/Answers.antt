@@ -1,4 +1,4 @@
-use Rattle.mapdb_rights.proofs.OrderBits.{with_bit}
+use Rattle.mapdb_rights.proofs.Places.OrderBits.{with_bit}
 use Rattle.mapdb_rights.proofs.index.orders.Orders.add.Goals as goal
 
 pub returns-then-order-lt-ORDER_LIMIT : goal.returns-then-order-lt-ORDER_LIMIT

@@ -1,6 +1,6 @@
 use Rattle.std.proofs.Common.{◌<◌, ◌/◌, ◌^◌, arith, rules}
 use Rattle.std.proofs.lemmas.Bool.{eq-eqb, eqb-true}
-use Rattle.mapdb_rights.proofs.OrderBits.{behind_has, bit_below, least_bit, none_behind}
+use Rattle.mapdb_rights.proofs.Places.OrderBits.{behind_has, bit_below, least_bit, none_behind}
 use Rattle.mapdb_rights.proofs.index.orders.Orders.next_from.Goals as goal
 
 pub returns-then-order-ge-ORDER_LIMIT : goal.returns-then-order-ge-ORDER_LIMIT

@@ -8,7 +8,7 @@ use Rattle.mapdb_rights.specs.declared.index.own_places.OwnPlace.{OwnPlace}
 use Rattle.mapdb_rights.specs.declared.index.places.Listed.{Listed}
 use Rattle.mapdb_rights.specs.Listing.{IsFirstInside}
 use Rattle.mapdb_rights.specs.OwnPlaces.{IsFirstPlaceWhere, own_list, place_cmp}
-use Rattle.mapdb_rights.proofs.OwnersPlaces.{first_from_own, places_absent, places_found}
+use Rattle.mapdb_rights.proofs.Places.OwnersPlaces.{first_from_own, places_absent, places_found}
 use Rattle.mapdb_rights.proofs.index.places.Places.first_from.Goals as goal
 
 pub returns-in-Some : goal.returns-in-Some

@@ -6,7 +6,7 @@ use Rattle.mapdb_rights.specs.declared.index.own_places.OwnPlace.{OwnPlace}
 use Rattle.mapdb_rights.specs.declared.index.places.FoundEntry.{FoundEntry}
 use Rattle.mapdb_rights.specs.Listing.{IsLastEntryWhereSaid, IsNextMeeting, found_entry}
 use Rattle.mapdb_rights.specs.OwnPlaces.{IsNextPlace, found_place, own_list}
-use Rattle.mapdb_rights.proofs.OwnersPlaces.{found_own, last_own, next_own, own_aligned, places_absent, places_found}
+use Rattle.mapdb_rights.proofs.Places.OwnersPlaces.{found_own, last_own, next_own, own_aligned, places_absent, places_found}
 use Rattle.mapdb_rights.proofs.index.places.Places.next_found.Goals as goal
 
 pub next_meeting-requires : goal.next_meeting-requires

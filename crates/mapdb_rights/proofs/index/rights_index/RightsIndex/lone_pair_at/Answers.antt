@@ -5,7 +5,7 @@ use Rattle.mapdb_rights.specs.Index.{StandsFor}
 use Rattle.mapdb_rights.specs.Lone.{IsLone}
 use Rattle.mapdb_rights.specs.declared.index.lone_records.Lone.{Lone}
 use Rattle.mapdb_rights.specs.declared.index.lone_records.Lone.TheVariants.{One}
-use Rattle.mapdb_rights.proofs.LonePairs.{alone}
+use Rattle.mapdb_rights.proofs.Live.LonePairs.{alone}
 use Rattle.mapdb_rights.proofs.index.rights_index.RightsIndex.lone_pair_at.Goals as goal
 
 pub returns-in-One-clause-pair : goal.returns-in-One-clause-pair

@@ -4,9 +4,9 @@ use Rattle.std.proofs.lemmas.Bool.{true≢false}
 use Rattle.mapdb_facts.specs.State.{nothing}
 use Rattle.mapdb_facts.specs.declared.operations.Record.{Record}
 use Rattle.mapdb_rights.specs.Changes.{AreFrames, cached_in}
-use Rattle.mapdb_rights.proofs.FramesFrom.{no_change_frames}
-use Rattle.mapdb_rights.proofs.Ended.{empty_stands}
-use Rattle.mapdb_rights.proofs.Entries.{none_aligned}
+use Rattle.mapdb_rights.proofs.Rights.FramesFrom.{no_change_frames}
+use Rattle.mapdb_rights.proofs.Settling.Ended.{empty_stands}
+use Rattle.mapdb_rights.proofs.Lists.Entries.{none_aligned}
 use Rattle.mapdb_rights.proofs.index.rights_index.RightsIndex.new.Goals as goal
 
 pub returns : goal.returns

@@ -3,7 +3,7 @@ use Rattle.mapdb_fpage.specs.RightSets.{is_empty}
 use Rattle.mapdb_rights.specs.Changes.{seen_in}
 use Rattle.mapdb_rights.specs.Frame.{frame_at}
 use Rattle.mapdb_rights.specs.Right.{rights_at}
-use Rattle.mapdb_rights.proofs.FramesFrom.{pair_is}
+use Rattle.mapdb_rights.proofs.Rights.FramesFrom.{pair_is}
 use Rattle.mapdb_rights.proofs.index.rights_index.RightsIndex.pair_at.Goals as goal
 
 pub returns-clause-pair : goal.returns-clause-pair

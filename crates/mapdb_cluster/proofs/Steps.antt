@@ -1,0 +1,9 @@
+pub mod Changing
+pub mod Holding
+pub mod Leaving
+pub mod NewCopies
+pub mod RunSteps
+pub mod Slots
+pub mod StepEvents
+pub mod StepTells
+pub mod Stepping

@@ -1,0 +1,9 @@
+pub mod Atoms
+pub mod Clashes
+pub mod Copied
+pub mod CutAtoms
+pub mod CutRuns
+pub mod KeptFacts
+pub mod Merged
+pub mod Nothing
+pub mod Spaces

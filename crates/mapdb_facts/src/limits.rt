@@ -1,0 +1,7 @@
+//! The limits of names.
+
+/// The numbers of records lie below this.
+pub const NUMBER_LIMIT: u64 = 1 << 40;
+
+/// The numbers of processors lie below this.
+pub const PROCESSOR_LIMIT: u8 = 64;

@@ -1,0 +1,6 @@
+pub mod AppliedLemmas
+pub mod CallCases
+pub mod FormedIssues
+pub mod Issuing
+pub mod Limits
+pub mod SoundIssues

@@ -1,0 +1,9 @@
+pub mod Agreeing
+pub mod AtomLists
+pub mod Bounding
+pub mod EndedVersions
+pub mod FoundAnswers
+pub mod Keeping
+pub mod KeptIndexes
+pub mod OpForms
+pub mod SameOps

@@ -1,0 +1,4 @@
+pub mod Gathering
+pub mod HolderLists
+pub mod HolderNames
+pub mod MapRecords

@@ -1,0 +1,9 @@
+pub mod HolderWalks
+pub mod LiveHolders
+pub mod LonePairs
+pub mod PairLaws
+pub mod PairLists
+pub mod RunningPages
+pub mod ServedLaws
+pub mod ServedPages
+pub mod SkippedPages

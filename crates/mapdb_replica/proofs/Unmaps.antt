@@ -1,0 +1,13 @@
+pub mod CutCopies
+pub mod CutForms
+pub mod CutIssues
+pub mod Grouping
+pub mod HolderTurns
+pub mod MeetingRecords
+pub mod NewTotals
+pub mod Reaching
+pub mod SharedPlaces
+pub mod SortedTurns
+pub mod TakenPages
+pub mod UnmapAtoms
+pub mod UnmapTurns

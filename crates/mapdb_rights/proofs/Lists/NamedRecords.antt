@@ -1,0 +1,152 @@
+-- The records that are looked up by ascending names are those of a list that pass.
+use Rattle.std.proofs.Common.{◌≡◌, Bool, true, false, Some, refl, sym, ap, subst, ◌∙◌, List, [], ◌∷◌, inl, inr}
+use Rattle.std.specs.Prelude.{◌||◌, Option, None, filter, if◌then◌else◌}
+use Rattle.std.specs.List.{All, AllByRecursion, cons_option, filter_map, list_any}
+use Rattle.std.specs.List.Sorted.{IsStrictlySortedBy}
+use Rattle.std.specs.BTreeMap.{is_at}
+use Rattle.std.specs.declared.cmp.Ordering.TheVariants.{Less}
+use Rattle.std.proofs.lemmas.Bool.{cases_Bool, cond-true, false≢true}
+use Rattle.std.proofs.lemmas.List.Elements.{All-from_recursion}
+use Rattle.std.proofs.lemmas.Map.Keys.{sorted_head, sorted_tail}
+use Rattle.mapdb_facts.proofs.RecordLemmas.Ascending.{after_at, after_from, among_find, ascending_records, by_id, find_among}
+use Rattle.mapdb_facts.proofs.Lists.Comparing.{exact_ids}
+use Rattle.mapdb_facts.proofs.RecordLemmas.Listed.{find_listed}
+use Rattle.mapdb_facts.proofs.Lists.SameLists.{same_lists}
+use Rattle.mapdb_facts.proofs.Lists.SameNames.{none_some, some_same}
+use Rattle.mapdb_facts.specs.Facts.{births, records_of_facts, state_of_facts}
+use Rattle.mapdb_facts.specs.Kept.{id_cmp, names_in}
+use Rattle.mapdb_facts.specs.Looking.{Holds}
+use Rattle.mapdb_facts.specs.Merging.{IsNamed}
+use Rattle.mapdb_facts.specs.Names.{is_before}
+use Rattle.mapdb_facts.specs.Records.{AllAfter, IsAmong, IsAscending}
+use Rattle.mapdb_facts.specs.State.{State}
+use Rattle.mapdb_facts.specs.declared.holding.Facts.{Facts}
+use Rattle.mapdb_facts.specs.declared.names.RecordId.{RecordId}
+use Rattle.mapdb_facts.specs.declared.operations.Record.{Record}
+use Rattle.mapdb_rights.specs.Meeting.{record_if}
+use Rattle.mapdb_rights.proofs.Lists.Passing.{among_filter, ascending_filter, filter_among}
+use Rattle.mapdb_rights.proofs.Places.PlaceNames.{before_of}
+
+-- ---- names
+
+abbrev pub itself : RecordId → RecordId
+itself id = id
+
+after_keys : (id : RecordId) (names : List RecordId) → AllByRecursion (λ other. id_cmp id other ≡ Less) names → AllAfter itself id names
+after_keys id [] h = tt
+after_keys id (other ∷ names) h = (before_of id other h.0, after_keys id names h.1)
+
+-- the keys of a set of names ascend
+pub ascending_keys : (names : List RecordId) → IsStrictlySortedBy id_cmp names → IsAscending itself names
+ascending_keys [] h = tt
+ascending_keys (id ∷ names) h = (after_keys id names (sorted_head id_cmp id names h), ascending_keys names (sorted_tail id_cmp id names h))
+
+-- a name of a set is one of its keys
+pub among_keys : (id : RecordId) (names : List RecordId) → list_any (is_at (id_cmp id)) names ≡ true → IsAmong id names
+among_keys id [] h = absurd (false≢true h)
+among_keys id (other ∷ names) h = elim (cases_Bool (is_at (id_cmp id) other)) [
+  | inl here ↦ inl (sym (exact_ids id other here))
+  | inr apart ↦ inr (among_keys id names (sym (ap (λ (b : Bool). b || list_any (is_at (id_cmp id)) names) apart) ∙ h))
+]
+
+-- ---- those that are looked up
+
+module _ (test : Record → Bool) (S : State) (named : IsNamed S) where
+  abbrev looked : RecordId → Option Record
+  looked id = record_if test (S.record_at id)
+
+  -- the record that a name finds, where it passes
+  record LookedUp (id : RecordId) (r : Record) : Type 0 where
+    held : Holds S r
+    passes : test r ≡ true
+    own : r.id ≡ id
+
+  looked_up : (id : RecordId) (r : Record) → looked id ≡ Some r → LookedUp id r
+  looked_up id r h = of_record (S.record_at id) refl h
+    where
+      of_test : (s : Record) → S.record_at id ≡ Some s → (b : Bool) → test s ≡ b → (if b then Some s else None) ≡ Some r → LookedUp id r
+      of_test s at true passes k =
+          subst (λ (x : Record). LookedUp id x) (some_same s r k)
+          (record { held = subst (λ (i : RecordId). S.record_at i ≡ Some s) (sym (named id s at)) at; passes = passes; own = named id s at })
+      of_test s at false fails k = absurd (none_some r k)
+
+      of_record : (o : Option Record) → S.record_at id ≡ o → record_if test o ≡ Some r → LookedUp id r
+      of_record None at k = absurd (none_some r k)
+      of_record (Some s) at k = of_test s at (test s) refl k
+
+  -- what is found was asked for
+  record Found (names : List RecordId) (r : Record) : Type 0 where
+    asked : IsAmong r.id names
+    held : Holds S r
+    passes : test r ≡ true
+
+  found_names : (names : List RecordId) (r : Record) → IsAmong r (filter_map looked names) → Found names r
+  found_names [] r k = absurd k
+  found_names (id ∷ names) r k = by (found_names names r) (looked id) refl k
+    where
+      further : Found names r → Found (id ∷ names) r
+      further found = record { asked = inr found.asked; held = found.held; passes = found.passes }
+
+      by : (IsAmong r (filter_map looked names) → Found names r) → (o : Option Record) → looked id ≡ o → IsAmong r (cons_option o (filter_map looked names)) → Found (id ∷ names) r
+      by later None at m = further (later m)
+      by later (Some s) at (inl e) =
+          let found = looked_up id s at in
+          subst (λ (x : Record). Found (id ∷ names) x) e (record { asked = inl (sym found.own); held = found.held; passes = found.passes })
+      by later (Some s) at (inr m) = further (later m)
+
+  names_found : (names : List RecordId) (r : Record) → IsAmong r.id names → Holds S r → test r ≡ true → IsAmong r (filter_map looked names)
+  names_found [] r k held passes = absurd k
+  names_found (id ∷ names) r (inl e) held passes =
+      let here : looked id ≡ Some r = ap (λ (i : RecordId). record_if test (S.record_at i)) e ∙ ap (record_if test) held ∙ cond-true (test r) (Some r) None passes in
+      subst (λ (o : Option Record). IsAmong r (cons_option o (filter_map looked names))) (sym here) (inl refl)
+  names_found (id ∷ names) r (inr k) held passes = by (looked id) (names_found names r k held passes)
+    where
+      by : (o : Option Record) → IsAmong r (filter_map looked names) → IsAmong r (cons_option o (filter_map looked names))
+      by None m = m
+      by (Some s) m = inr m
+
+  ascending_looked : (names : List RecordId) → IsAscending itself names → IsAscending by_id (filter_map looked names)
+  ascending_looked [] rising = tt
+  ascending_looked (id ∷ names) rising = by (looked id) refl (ascending_looked names rising.1)
+    where
+      by : (o : Option Record) → looked id ≡ o → IsAscending by_id (filter_map looked names) → IsAscending by_id (cons_option o (filter_map looked names))
+      by None at later = later
+      by (Some s) at later = (
+        after_from by_id s.id (filter_map looked names)
+            (λ r k. subst (λ (i : RecordId). is_before i r.id ≡ true) (sym (looked_up id s at).own) (after_at itself id names r.id rising.0 (found_names names r k).asked)),
+        later,
+      )
+
+-- Where each held record that passes is named, those that are looked up are those of the list that pass.
+pub looked_is_filtered : (facts : Facts) (test : Record → Bool) (names : List RecordId) → IsNamed (state_of_facts facts) → IsAscending itself names
+    → ((r : Record) → Holds (state_of_facts facts) r → test r ≡ true → IsAmong r.id names)
+    → filter_map (λ id. record_if test ((state_of_facts facts).record_at id)) names ≡ filter test (records_of_facts facts)
+looked_is_filtered facts test names named rising covered =
+    same_lists by_id (filter_map (looked test S named) names) (filter test (records_of_facts facts))
+    (ascending_looked test S named names rising) (ascending_filter test by_id (records_of_facts facts) ascending)
+    (record {
+      to = λ r k. let found = found_names test S named names r k in
+          among_filter test (records_of_facts facts) r (find_among (records_of_facts facts) r.id r (find_listed facts named r.id ∙ found.held)).0 found.passes;
+      from = λ r k. let found = filter_among test (records_of_facts facts) r k in
+          let held : Holds S r = sym (find_listed facts named r.id) ∙ among_find (records_of_facts facts) r ascending found.0 in
+          names_found test S named names r (covered r held found.1) held found.1;
+    })
+  where
+    S : State
+    S = state_of_facts facts
+
+    ascending : IsAscending by_id (records_of_facts facts)
+    ascending = ascending_records (births (state_of_facts facts) (names_in facts.records))
+
+-- what is true of each member is true of all
+all_members : (P : Record → Type 0) (xs : List Record) → ((r : Record) → IsAmong r xs → P r) → AllByRecursion P xs
+all_members P [] each = tt
+all_members P (r ∷ xs) each = (each r (inl refl), all_members P xs (λ s k. each s (inr k)))
+
+-- what is true of each held record is true of those of the list that pass
+pub all_filtered : (facts : Facts) (test : Record → Bool) (P : Record → Type 0) → IsNamed (state_of_facts facts)
+    → ((r : Record) → Holds (state_of_facts facts) r → P r) → All P (filter test (records_of_facts facts))
+all_filtered facts test P named each =
+    All-from_recursion P (filter test (records_of_facts facts)) (all_members P (filter test (records_of_facts facts)) (λ r k.
+    each r (sym (find_listed facts named r.id)
+    ∙ among_find (records_of_facts facts) r (ascending_records (births (state_of_facts facts) (names_in facts.records))) (filter_among test (records_of_facts facts) r k).0)))

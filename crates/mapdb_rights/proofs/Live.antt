@@ -1,0 +1,6 @@
+pub mod LiveLists
+pub mod LiveOrders
+pub mod LiveRecords
+pub mod LonePairs
+pub mod LoneRecords
+pub mod ShownNames

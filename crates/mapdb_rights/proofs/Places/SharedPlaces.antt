@@ -1,0 +1,85 @@
+-- A record whose place, or whose source, shares pages with a place has an entry that meets its pages.
+use Rattle.std.proofs.Common.{◌≡◌, ℕ, ◌+◌, ◌-◌, ◌<◌, Bool, true, false, List, refl, ap, ◌∙◌, arith}
+use Rattle.std.specs.Prelude.{None, Some, filter, is_some, max, min, nat_le, nat_lt, if◌then◌else◌}
+use Rattle.std.specs.BTreeMap.{is_at}
+use Rattle.std.specs.List.{filter_map, list_any}
+use Rattle.std.specs.List.Sorted.{IsStrictlySortedBy}
+use Rattle.std.proofs.lemmas.Bool.{and_parts, false≢true, lt-ltb}
+use Rattle.std.proofs.lemmas.Nat.{pow_pos}
+use Rattle.mapdb_fpage.proofs.Meets.{holds_range}
+use Rattle.mapdb_fpage.specs.Place.{Place, holds, meet, page_total}
+use Rattle.mapdb_facts.proofs.Lists.SameNames.{same_id_true, same_space_true}
+use Rattle.mapdb_facts.specs.Facts.{records_of_facts, state_of_facts}
+use Rattle.mapdb_facts.specs.Kept.{id_cmp}
+use Rattle.mapdb_facts.specs.Looking.{Holds}
+use Rattle.mapdb_facts.specs.Merging.{IsNamed}
+use Rattle.mapdb_facts.specs.Names.{same_id, same_space}
+use Rattle.mapdb_facts.specs.Records.{IsAmong}
+use Rattle.mapdb_facts.specs.State.{State}
+use Rattle.mapdb_facts.specs.declared.holding.Facts.{Facts}
+use Rattle.mapdb_facts.specs.declared.names.RecordId.{RecordId}
+use Rattle.mapdb_facts.specs.declared.operations.Record as operations
+use Rattle.mapdb_rights.specs.Following.{AreListed}
+use Rattle.mapdb_rights.specs.Listing.{is_listed, meets, place_of, source_of}
+use Rattle.mapdb_rights.specs.Meeting.{record_if, shares_part, source_place}
+use Rattle.mapdb_rights.specs.declared.index.places.Listed.{Listed}
+use Rattle.mapdb_rights.specs.declared.index.places.Owner.{Owner}
+use Rattle.mapdb_rights.specs.declared.index.places.Owner.TheVariants.{Record, Space}
+use Rattle.mapdb_rights.proofs.Lists.NamedRecords.{among_keys, ascending_keys, looked_is_filtered}
+use Rattle.mapdb_rights.specs.declared.index.places.Places.{Places}
+
+-- places that share pages meet
+meet_meets : (a b : Place) → is_some (meet a b) ≡ true → nat_lt (max a.first_page b.first_page) (min (a.first_page + page_total a) (b.first_page + page_total b)) ≡ true
+meet_meets a b h = by_size (nat_le a.order b.order) h
+  where
+    some_a : 0 < page_total a
+    some_a = pow_pos (a.order - 12)
+
+    some_b : 0 < page_total b
+    some_b = pow_pos (b.order - 12)
+
+    in_b : (t : Bool) → holds b a.first_page ≡ t → is_some (if t then Some a else None) ≡ true
+        → nat_lt (max a.first_page b.first_page) (min (a.first_page + page_total a) (b.first_page + page_total b)) ≡ true
+    in_b true e k =
+        let range = holds_range b a.first_page e in
+        let low = range.0 in
+        let high = range.1 in
+        let some = some_a in
+        lt-ltb (max a.first_page b.first_page) (min (a.first_page + page_total a) (b.first_page + page_total b)) (omega arith)
+    in_b false e k = absurd (false≢true k)
+
+    in_a : (t : Bool) → holds a b.first_page ≡ t → is_some (if t then Some b else None) ≡ true
+        → nat_lt (max a.first_page b.first_page) (min (a.first_page + page_total a) (b.first_page + page_total b)) ≡ true
+    in_a true e k =
+        let range = holds_range a b.first_page e in
+        let low = range.0 in
+        let high = range.1 in
+        let some = some_b in
+        lt-ltb (max a.first_page b.first_page) (min (a.first_page + page_total a) (b.first_page + page_total b)) (omega arith)
+    in_a false e k = absurd (false≢true k)
+
+    by_size : (t : Bool) → is_some (if t then (if holds b a.first_page then Some a else None) else (if holds a b.first_page then Some b else None)) ≡ true
+        → nat_lt (max a.first_page b.first_page) (min (a.first_page + page_total a) (b.first_page + page_total b)) ≡ true
+    by_size true k = in_b (holds b a.first_page) refl k
+    by_size false k = in_a (holds a b.first_page) refl k
+
+-- what is true of the name of each entry that meets the pages of the place is true of the records that share pages with it
+pub each_sharing : (set : Places) (S : State) (P : RecordId → Type 0) (part : Place) → AreListed S set → (owner : Owner)
+    → ((e : Listed) → is_listed set e ≡ true → e.owner ≡ owner → meets e part.first_page (part.first_page + page_total part) ≡ true → P e.id)
+    → (r : operations.Record) → Holds S r → shares_part owner part r ≡ true → P r.id
+each_sharing set S P part there (Space space) each r held shares =
+    let parts = and_parts (same_space r.space space) (is_some (meet r.place part)) shares in
+    each (place_of r) (there.places r held).by_space (ap Space (same_space_true r.space space parts.0)) (meet_meets r.place part parts.1)
+each_sharing set S P part there (Record parent) each r held shares =
+    let parts = and_parts (same_id r.parent parent) (is_some (meet (source_place r) part)) shares in
+    each (source_of r) (there.places r held).by_parent (ap Record (same_id_true r.parent parent parts.0)) (meet_meets (source_place r) part parts.1)
+
+-- what the names of the entries that meet the pages find, as far as it shares pages with the place, is all that does
+pub sharing_is_all : (facts : Facts) (set : Places) (owner : Owner) (part : Place) (names : List RecordId) (first end : ℕ)
+    → IsNamed (state_of_facts facts) → AreListed (state_of_facts facts) set → first ≡ part.first_page → end ≡ part.first_page + page_total part → IsStrictlySortedBy id_cmp names
+    → ((e : Listed) → is_listed set e ≡ true → e.owner ≡ owner → meets e first end ≡ true → list_any (is_at (id_cmp e.id)) names ≡ true)
+    → filter_map (λ id. record_if (shares_part owner part) ((state_of_facts facts).record_at id)) names ≡ filter (shares_part owner part) (records_of_facts facts)
+sharing_is_all facts set owner part names first end named there first_is end_is rising each =
+    looked_is_filtered facts (shares_part owner part) names named (ascending_keys names rising)
+    (each_sharing set (state_of_facts facts) (λ (id : RecordId). IsAmong id names) part there owner
+    (λ e has own meeting. among_keys e.id names (each e has own ((λ i. meets e (first_is i) (end_is i)) ∙ meeting))))

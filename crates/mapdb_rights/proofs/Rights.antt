@@ -1,0 +1,11 @@
+pub mod Backed
+pub mod Frames
+pub mod FramesFrom
+pub mod FramesOn
+pub mod FromParents
+pub mod Narrow
+pub mod OneRelation
+pub mod Settled
+pub mod SourcePages
+pub mod Steps
+pub mod Walk

@@ -1,0 +1,6 @@
+pub mod Built
+pub mod Ended
+pub mod Followed
+pub mod Pendings
+pub mod Settlement
+pub mod Stirring

@@ -1,0 +1,127 @@
+-- What an operation leaves to be settled, and which records are listed after it.
+use Rattle.std.proofs.Common.{◌≡◌, ℕ, Bool, true, false, List, refl, sym, ap, subst, ◌∙◌, inl, inr}
+use Rattle.std.specs.Prelude.{◌⊎◌, Option, Some, None, if◌then◌else◌}
+use Rattle.mapdb_facts.specs.Looking.{Holds}
+use Rattle.mapdb_facts.specs.Merging.{IsNamed}
+use Rattle.mapdb_facts.specs.Names.{same_id}
+use Rattle.mapdb_facts.specs.State.{State, first_of, join, said}
+use Rattle.mapdb_facts.specs.WellFormed.{IsFormedRecord}
+use Rattle.mapdb_facts.specs.declared.names.RecordId.{RecordId}
+use Rattle.mapdb_facts.specs.declared.names.Space.{Space}
+use Rattle.mapdb_facts.specs.declared.operations.Op.{Op}
+use Rattle.mapdb_facts.specs.declared.operations.Op.TheVariants.{Born, Closed, Cut}
+use Rattle.mapdb_facts.specs.declared.operations.Record.{Record}
+use Rattle.mapdb_facts.specs.declared.operations.Revocation.{Revocation}
+use Rattle.mapdb_rights.specs.declared.index.places.Listed.{Listed}
+use Rattle.mapdb_rights.specs.declared.index.stale.Stale.{Stale}
+use Rattle.mapdb_rights.specs.Caching.{AreRights, Cached, IsSettled, Stirs}
+use Rattle.mapdb_rights.specs.Changes.{AreFrames, PageChanges}
+use Rattle.mapdb_rights.specs.Following.{AreListed}
+use Rattle.mapdb_rights.specs.Listing.{AllAligned, AreOfHeld, IsListed, is_listed, place_of, source_of}
+use Rattle.mapdb_rights.specs.Pending.{AreSettledBut, IsPending}
+use Rattle.mapdb_rights.specs.PageRights.{is_record_into}
+use Rattle.mapdb_rights.specs.declared.index.places.Owner.TheVariants as owners
+use Rattle.std.proofs.lemmas.Bool.{false≢true}
+use Rattle.mapdb_rights.proofs.Rights.FramesFrom.{frames_later}
+use Rattle.mapdb_rights.proofs.Lists.ListedOrder.{owner_is}
+use Rattle.mapdb_rights.proofs.Settling.Stirring.{operations_stir}
+use Rattle.mapdb_rights.specs.declared.index.places.Places.{Places}
+
+pub left_by_op : (S before : State) (op : Op) (cached : Cached) (stack : List Stale) → S ≡ join before (said op) → AreRights before cached
+    → ((id : RecordId) (page : ℕ) → Stirs before op id page → IsPending stack id page) → AreSettledBut S cached stack
+left_by_op S before op cached stack is are stirred id page =
+    elim (operations_stir before op cached are id page) [
+      | inl settled ↦ inl (subst (λ (T : State). IsSettled T cached id page) (sym is) settled)
+      | inr stirs ↦ inr (stirred id page stirs)
+    ]
+
+-- frames stay after an operation
+pub frames_by_op : (S before : State) (op : Op) (changes : PageChanges) → S ≡ join before (said op) → AreFrames before changes → AreFrames S changes
+frames_by_op S before op changes is frames = subst (λ (T : State). AreFrames T changes) (sym is) (frames_later before (said op) changes frames)
+
+pub first_alone : (o : Option Record) → first_of o None ≡ o
+first_alone None = refl
+first_alone (Some r) = refl
+
+-- what is held stays so
+pub held_on : (S before : State) (T : State) → S ≡ join before T → (r : Record) → Holds before r → Holds S r
+held_on S before T is r held = ap (λ (U : State). U.record_at r.id) is ∙ ap (λ (o : Option Record). first_of o (T.record_at r.id)) held
+
+-- what is listed is of records that are held still
+pub of_held_on : (S before : State) (T : State) (set : Places) → S ≡ join before T → AreOfHeld before set → AreOfHeld S set
+of_held_on S before T set is are e has = let one = are e has in record { r = one.r; held = held_on S before T is one.r one.held; is = one.is }
+
+-- what holds the same records has the same listed
+pub listed_alike : (S before : State) (T : State) (set : Places) → S ≡ join before T → ((id : RecordId) → T.record_at id ≡ None) → AreListed before set → AreListed S set
+listed_alike S before T set is none are = record {
+  named = λ id r held. are.named id r (alike id ∙ held);
+  formed = λ r held. are.formed r (alike r.id ∙ held);
+  places = λ r held. are.places r (alike r.id ∙ held);
+  aligned = are.aligned;
+  held = of_held_on S before T set is are.held;
+}
+  where
+    alike : (id : RecordId) → before.record_at id ≡ S.record_at id
+    alike id = sym (first_alone (before.record_at id)) ∙ sym (ap (first_of (before.record_at id)) (none id)) ∙ sym (ap (λ (U : State). U.record_at id) is)
+
+pub listed_by_cut : (S before : State) (cut : Revocation) (set : Places) → S ≡ join before (said (Cut cut)) → AreListed before set → AreListed S set
+listed_by_cut S before cut set is are = listed_alike S before (said (Cut cut)) set is (λ id. refl) are
+
+pub listed_by_end : (S before : State) (space : Space) (set : Places) → S ≡ join before (said (Closed space)) → AreListed before set → AreListed S set
+listed_by_end S before space set is are = listed_alike S before (said (Closed space)) set is (λ id. refl) are
+
+-- what is listed stays so where more is
+pub listed_on : (old new : Places) → ((e : Listed) → is_listed old e ≡ true → is_listed new e ≡ true) → (r : Record) → IsListed old r → IsListed new r
+listed_on old new kept r l = record { by_space = kept (place_of r) l.by_space; by_parent = kept (source_of r) l.by_parent; place = l.place }
+
+-- a record more is listed
+module _ (old new : Places) (kept : (e : Listed) → is_listed old e ≡ true → is_listed new e ≡ true)
+    (S before : State) (m : Record) (is : S ≡ join before (said (Born m))) (there : (r : Record) → S.record_at m.id ≡ Some r → IsListed new r) (listed : AreListed before old) where
+  looked : (r : Record) (o : Option Record) → before.record_at r.id ≡ o → Holds S r → first_of o (if same_id m.id r.id then Some m else None) ≡ Some r
+  looked r o at held = ap (λ p. first_of p (if same_id m.id r.id then Some m else None)) (sym at) ∙ sym (ap (λ (T : State). T.record_at r.id) is) ∙ held
+
+  newly : (r : Record) → Holds S r → (t : Bool) → (if t then Some m else None) ≡ Some r → IsListed new r
+  newly r held true e = there r (ap (λ (s : Record). S.record_at s.id) (some_same m r e) ∙ held)
+    where
+      some_same : (a b : Record) → Some a ≡ Some b → a ≡ b
+      some_same a b e = cc
+  newly r held false e = absurd (none_some r e)
+    where
+      none_some : (r : Record) → None ≡ Some r → ⊥
+      none_some r e = cc
+
+  listed_of : (r : Record) → Holds S r → (o : Option Record) → before.record_at r.id ≡ o → first_of o (if same_id m.id r.id then Some m else None) ≡ Some r → IsListed new r
+  listed_of r held None at e = newly r held (same_id m.id r.id) e
+  listed_of r held (Some s) at e = listed_on old new kept r (listed.places r (at ∙ e))
+
+  pub listed_by_record : AllAligned new → AreOfHeld S new → IsNamed S → ((r : Record) → Holds S r → IsFormedRecord r) → AreListed S new
+  listed_by_record aligned held_all named formed = record {
+    named = named;
+    formed = formed;
+    places = λ r held. listed_of r held (before.record_at r.id) refl (looked r (before.record_at r.id) refl held);
+    aligned = aligned;
+    held = held_all;
+  }
+
+-- what is listed with a held record more is of held records
+pub of_held_with : (S : State) (old new : Places) (m : Record) → Holds S m
+    → ((e : Listed) → is_listed new e ≡ true → (e ≡ place_of m) ⊎ (e ≡ source_of m) ⊎ (is_listed old e ≡ true)) → AreOfHeld S old → AreOfHeld S new
+of_held_with S old new m held no_more are e has = elim (no_more e has) [
+  | inl here ↦ record { r = m; held = held; is = inl here }
+  | inr more ↦ elim more [
+    | inl source ↦ record { r = m; held = held; is = inr source }
+    | inr stood ↦ are e stood
+  ]
+]
+
+-- what is listed under a space is a record into it
+pub listed_into : (S : State) (set : Places) (space : Space) (e : Listed) → AreOfHeld S set → is_listed set e ≡ true → e.owner ≡ owners.Space space
+    → is_record_into (S.record_at e.id) space ≡ true
+listed_into S set space e are has own = let one = are e has in by one.r one.held one.is
+  where
+    by : (r : Record) → Holds S r → (e ≡ place_of r) ⊎ (e ≡ source_of r) → is_record_into (S.record_at e.id) space ≡ true
+    by r held (inl is) =
+        ap (λ (o : Option Record). is_record_into o space) (ap (λ (k : Listed). S.record_at k.id) is ∙ held)
+        ∙ owner_is (owners.Space r.space) (owners.Space space) (sym (ap (λ (k : Listed). k.owner) is) ∙ own)
+    by r held (inr is) =
+        absurd (false≢true (owner_is (owners.Record r.parent) (owners.Space space) (sym (ap (λ (k : Listed). k.owner) is) ∙ own)))

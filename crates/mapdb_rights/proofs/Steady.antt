@@ -1,0 +1,4 @@
+pub mod PageRuns
+pub mod ShownRuns
+pub mod SteadyPages
+pub mod SteadySpaces

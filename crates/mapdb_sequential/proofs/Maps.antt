@@ -1,0 +1,2 @@
+pub mod MapLists
+pub mod Mapping

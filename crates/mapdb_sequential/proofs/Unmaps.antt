@@ -1,0 +1,4 @@
+pub mod LinkedUnmap
+pub mod UnmapLists
+pub mod UnmapShown
+pub mod Unmapping

@@ -1,0 +1,4 @@
+pub mod CutNames
+pub mod EndedSpaces
+pub mod Inserting
+pub mod NamesComeBack
