@@ -4,8 +4,8 @@
     tests/run.py [--short] [--jobs N] [--program PATH] [KIND ..]
     tests/run.py fuzz [--minutes N | --count N] [--seed S]
 
-Runs these kinds of tests, or all: rows, dialogue, pictures, refusals, libraries, streams, hostile,
-fuzz and planted. Each tells what it ran, and how many cases passed and failed. The last line is the
+Runs these kinds of tests, or all: rows, dialogue, pictures, refusals, libraries, links, streams,
+hostile, fuzz and planted. Each tells what it ran, and how many cases passed and failed. The last line is the
 sum, `N passed, M failed`; the status is 0 only where none failed.
 """
 
@@ -20,6 +20,7 @@ from driver.fuzz import fuzz  # noqa: E402
 from driver.hostile import run_hostile  # noqa: E402
 from driver.interposer import Workshop  # noqa: E402
 from driver.libraries import run_libraries  # noqa: E402
+from driver.links import run_links  # noqa: E402
 from driver.pictures import run_pictures  # noqa: E402
 from driver.planted import run_planted  # noqa: E402
 from driver.program import BUILT, Program  # noqa: E402
@@ -29,7 +30,8 @@ from driver.streams import run_streams  # noqa: E402
 from driver.tally import Tally, total  # noqa: E402
 
 KINDS = [
-    "rows", "dialogue", "pictures", "refusals", "libraries", "streams", "hostile", "fuzz", "planted"
+    "rows", "dialogue", "pictures", "refusals", "libraries", "links", "streams", "hostile", "fuzz",
+    "planted"
 ]
 SHORT_COUNT = 5000
 LONG_COUNT = 100000
@@ -83,6 +85,8 @@ def run_kind(
         return Tally(kind).skip("there is no C compiler")
     if kind == "libraries":
         return run_libraries(interposer, chosen.jobs)
+    if kind == "links":
+        return run_links(program, interposer)
     run_interposed = run_refusals if kind == "refusals" else run_streams
     return run_interposed(program, interposer, chosen.short, chosen.jobs)
 

@@ -607,7 +607,7 @@ static void names(void)
     CHECK(strcmp(mapdb_status_name(MAPDB_SNAPSHOT_VERSION + 1), "unknown"), 0);
 }
 
-/* A path over every call that takes memory. It answers whether a call wanted memory. */
+/* A path over every call that takes memory. It answers whether a call ran out of memory. */
 static bool wanting(void)
 {
     mapdb_copy copy = MAPDB_EMPTY, other = MAPDB_EMPTY;

@@ -31,6 +31,7 @@ struct report {
     uint64_t threads, refused_threads;
     uint64_t reads, failed_reads;
     uint64_t writes, failed_writes;
+    uint64_t bytes;
 };
 
 static struct {
@@ -100,16 +101,27 @@ extern void *__libc_calloc(size_t, size_t);
 extern void *__libc_realloc(void *, size_t);
 extern void *__libc_memalign(size_t, size_t);
 
-void *malloc(size_t size) { return no_memory() ? NULL : __libc_malloc(size); }
-
-void *calloc(size_t members, size_t size) {
-    return no_memory() ? NULL : __libc_calloc(members, size);
+/* The same, of a call that asks for so many bytes; counts those that are given. */
+static int is_without(size_t size) {
+    if (no_memory())
+        return 1;
+    if (is_begun)
+        __atomic_add_fetch(&report->bytes, size, __ATOMIC_SEQ_CST);
+    return 0;
 }
 
-void *realloc(void *old, size_t size) { return no_memory() ? NULL : __libc_realloc(old, size); }
+void *malloc(size_t size) { return is_without(size) ? NULL : __libc_malloc(size); }
+
+void *calloc(size_t members, size_t size) {
+    return is_without(members * size) ? NULL : __libc_calloc(members, size);
+}
+
+void *realloc(void *old, size_t size) {
+    return is_without(size) ? NULL : __libc_realloc(old, size);
+}
 
 void *memalign(size_t alignment, size_t size) {
-    return no_memory() ? NULL : __libc_memalign(alignment, size);
+    return is_without(size) ? NULL : __libc_memalign(alignment, size);
 }
 
 void *aligned_alloc(size_t alignment, size_t size) { return memalign(alignment, size); }

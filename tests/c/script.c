@@ -39,7 +39,7 @@ static void *room_for(size_t count, size_t size)
     return room;
 }
 
-/* Ends where memory was wanted, and else tells whether the call was done. */
+/* Ends where memory ran out, and else tells whether the call was done. */
 static bool is_done(uint32_t status)
 {
     if (status == MAPDB_MEMORY)

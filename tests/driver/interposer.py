@@ -17,7 +17,8 @@ SOURCE = os.path.join(TESTS, "c", "interpose.c")
 
 
 class Counts(NamedTuple):
-    """How many calls of each kind a run made, and how many of them were refused or failed."""
+    """How many calls of each kind a run made, and how many of them were refused or failed; and how
+    many bytes the allocations asked for that were not."""
 
     allocations: int
     refused_allocations: int
@@ -27,6 +28,7 @@ class Counts(NamedTuple):
     failed_reads: int
     writes: int
     failed_writes: int
+    bytes: int
 
 
 LAYOUT = struct.Struct("=%dQ" % len(Counts._fields))

@@ -39,7 +39,7 @@ class Case(NamedTuple):
 
 # An Unmap of 6 revocations, a Map of 4 records, a batch of 13 operations, a command whose record
 # stands without an index, 5 commands at a tree, 10 events, and 8 commands of which each is an
-# entry, also one that wanted memory. A table and a report are not given in part.
+# entry, also one that ran out of memory. A table and a report are not given in part.
 CASES = [
     Case("unmap", range(6)),
     Case("map", range(4)),

@@ -11,18 +11,19 @@ from planted.faults import Fault, Scene, is_reported
 from planted.fuzz import fuzz_faults
 from planted.hostile import hostile_faults
 from planted.libraries import libraries_faults
+from planted.links import links_faults
 from planted.pictures import pictures_faults
 from planted.refusals import refusals_faults
 from planted.rows import rows_faults
 from planted.streams import streams_faults
 from planted.sums import sums_faults
 
-INTERPOSED = ("refusals", "libraries", "streams", "sums")
+INTERPOSED = ("refusals", "libraries", "links", "streams", "sums")
 
 
 def all_faults() -> list[Fault]:
     return (rows_faults() + pictures_faults() + refusals_faults() + libraries_faults()
-            + streams_faults() + hostile_faults() + fuzz_faults() + sums_faults())
+            + links_faults() + streams_faults() + hostile_faults() + fuzz_faults() + sums_faults())
 
 
 def run_planted(

@@ -1,4 +1,4 @@
-"""Faults that `refusals` has to report: a want of memory that is not told, or told otherwise."""
+"""Faults that `refusals` has to report: running out of memory that is not told, or told otherwise."""
 
 from driver.program import NO_MEMORY, Outcome
 from driver.refusals import Series, refuse_all, run_refusals
@@ -25,13 +25,13 @@ THREAD = Series(ONE_THREAD, "thread", False)
 
 # Name, what is told, the series of runs, and the change.
 CHANGES = [
-    ("a want of memory that is not told", "one_end, refused .*: Outcome.status=0",
+    ("running out of memory that is not told", "one_end, refused .*: Outcome.status=0",
      ALLOCATION, where(is_refused, status=0, errors=b"")),
-    ("a want of memory with another status", "one_end, refused .*: Outcome.status=1",
+    ("running out of memory, told with another status", "one_end, refused .*: Outcome.status=1",
      ALLOCATION, where(is_refused, status=1)),
-    ("a want of memory without a message", "one_end, refused .*status=4, .*errors=b''",
+    ("running out of memory, told without a message", "one_end, refused .*status=4, .*errors=b''",
      ALLOCATION, where(is_refused, errors=b"")),
-    ("a want of memory with more than its message", "one_end, refused .*status=4, .*more",
+    ("memory that ran out with more than its message", "one_end, refused .*status=4, .*more",
      ALLOCATION, where(is_refused, errors=NO_MEMORY + b"more\n")),
     ("an end by a signal", "one_end, refused .*: Outcome.status=-6",
      ALLOCATION, where(is_refused, status=-6)),
