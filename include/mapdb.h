@@ -81,7 +81,7 @@ enum {
 enum mapdb_status {
     MAPDB_DONE = 0,              /* the call did what it says */
     MAPDB_NO_COPY = 1,           /* the handle has no copy, or one of two has none */
-    MAPDB_MEMORY = 2,            /* memory was wanted; the call's comment says what stands */
+    MAPDB_MEMORY = 2,            /* memory ran out; the call's comment says what stands */
     MAPDB_BAD_PROCESSOR = 3,     /* a processor of 64 or more */
     MAPDB_BAD_SPACE = 4,         /* the number of a space is 2^16 or more */
     MAPDB_NOT_SERVED = 5,        /* the page is served from no frame */

@@ -23,7 +23,7 @@ pub enum IssueError {
     Refused(Status),
     /// This space has ended. Nothing is issued.
     SpaceEnded(Space),
-    /// Memory was wanted. So many first operations stand; they are not all.
+    /// Memory ran out. So many first operations stand; they are not all.
     Memory { issued: u64 },
 }
 
@@ -35,7 +35,7 @@ pub enum TakeError {
     Refused { status: Status, place: u64 },
     /// Two different records have this name. Nothing is changed.
     Clash { number: u64, processor: u32 },
-    /// Memory was wanted. What is new of so many first operations stands; they are not all.
+    /// Memory ran out. What is new of so many first operations stands; they are not all.
     Memory { taken: u64 },
 }
 

@@ -8,7 +8,7 @@ use core::fmt;
 pub enum Status {
     /// The handle has no copy.
     NoCopy = 1,
-    /// Memory was wanted. What stands is told where something does.
+    /// Memory ran out. What stands is told where something does.
     Memory = 2,
     /// A processor of 64 or more.
     BadProcessor = 3,
