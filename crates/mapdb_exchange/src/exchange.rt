@@ -21,8 +21,8 @@ use std::thread::Threads;
 use std::vec::IntoIter;
 
 /// Runs each script at a processor of its own, all at the same time, over links that hold
-/// `capacity` messages each. Each command passes the gate. Once all have ended, each copy holds what
-/// all processors issued. It waits.
+/// `capacity` messages each. Each command passes the gate. Once all have ended, each copy holds
+/// what all processors issued. It waits.
 ///
 /// A command that is refused for another cause than memory is a reply in the history, and no fault
 /// of the run.
