@@ -103,18 +103,11 @@ fn expect_three<R: Abort + Threads + Wait + Sync>(
 }
 
 #[test]
-fn threaded_exchange_of_capacity_1(rt: HostRuntime) -> Result<(), Fail> {
-    expect_three(&rt, rt.alloc(), 1)
-}
-
-#[test]
-fn threaded_exchange_of_capacity_16(rt: HostRuntime) -> Result<(), Fail> {
-    expect_three(&rt, rt.alloc(), 16)
-}
-
-#[test]
-fn threaded_exchange_of_capacity_1_024(rt: HostRuntime) -> Result<(), Fail> {
-    expect_three(&rt, rt.alloc(), 1_024)
+fn threaded_exchange(rt: HostRuntime) -> Result<(), Fail> {
+    for capacity in &[1, 16, 1_024] {
+        expect_three(&rt, rt.alloc(), *capacity)?;
+    }
+    Ok(())
 }
 
 /// Whether there are so many parts, and each copy holds so many operations.
@@ -155,22 +148,11 @@ fn expect_bad_count<R: Abort + Threads + Wait + Sync>(
     Ok(())
 }
 
+/// No script, too many, no capacity and too much.
 #[test]
-fn no_script(rt: HostRuntime) -> Result<(), Fail> {
-    expect_bad_count(&rt, rt.alloc(), 0, 1)
-}
-
-#[test]
-fn too_many_scripts(rt: HostRuntime) -> Result<(), Fail> {
-    expect_bad_count(&rt, rt.alloc(), 5, 1)
-}
-
-#[test]
-fn no_capacity(rt: HostRuntime) -> Result<(), Fail> {
-    expect_bad_count(&rt, rt.alloc(), 1, 0)
-}
-
-#[test]
-fn too_much_capacity(rt: HostRuntime) -> Result<(), Fail> {
-    expect_bad_count(&rt, rt.alloc(), 1, 1_025)
+fn bad_counts(rt: HostRuntime) -> Result<(), Fail> {
+    for (count, capacity) in &[(0, 1), (5, 1), (1, 0), (1, 1_025)] {
+        expect_bad_count(&rt, rt.alloc(), *count, *capacity)?;
+    }
+    Ok(())
 }

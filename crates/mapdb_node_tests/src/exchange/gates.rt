@@ -82,3 +82,32 @@ fn gate_that_refuses(rt: HostRuntime) -> Result<(), Fail> {
     expect(&rt, fault_at(&rt, rt.alloc(), &Shut)?, Some(RunFault::Gate));
     Ok(())
 }
+
+/// Lets the points of one command pass, and no more.
+#[derive(Drop)]
+struct Once {
+    passed: AtomicU64,
+}
+
+impl Gate for Once {
+    fn pass(&self, _processor: u8, _point: Point) -> Result<(), GateFault> {
+        if self.passed.fetch_add(1, Ordering::SeqCst) < 3 {
+            Ok(())
+        } else {
+            Err(GateFault)
+        }
+    }
+}
+
+/// Each command of a script passes the gate, and not the first alone.
+#[test]
+fn gate_that_refuses_the_second_command(rt: HostRuntime) -> Result<(), Fail> {
+    let gate = Once {
+        passed: AtomicU64::new(0),
+    };
+    let mut scripts = Vec::new(rt.alloc());
+    scripts.push(ends(rt.alloc(), 1, 2)?)?;
+    let fault = run(&rt, rt.alloc(), scripts, 1, &gate).err();
+    expect(&rt, fault, Some(RunFault::Gate));
+    Ok(())
+}
