@@ -9,7 +9,7 @@ use Rattle.mapdb_exchange.specs.declared.faults.RunFault.TheVariants as run
 use Rattle.mapdb_exchange.specs.declared.reports.Part.{Part}
 use Rattle.mapdb_lines.specs.Fronts.{BeginsWith}
 use Rattle.mapdb_script.specs.declared.faults.ScriptFault.TheVariants as script
-use Rattle.mapdb_script.specs.Cluster.{reply_line}
+use Rattle.mapdb_script.specs.Answering.{reply_line}
 use Rattle.mapdb_script.specs.Reply.{same_text}
 use Rattle.mapdb_script.specs.Script.{fault_line}
 use Rattle.mapdb_script.specs.Threading.{scripts_of}

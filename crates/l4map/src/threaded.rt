@@ -5,7 +5,7 @@ ghost use Rattle.std.specs.Prelude.{string_bytes};
 ghost use Rattle.std.specs.Io.KnownBytes.{Appends, Consumes};
 ghost use Rattle.mapdb_exchange.specs.Reports.{HoldSame};
 ghost use Rattle.mapdb_facts.specs.State.{SameAtoms};
-ghost use Rattle.mapdb_script.specs.Cluster.{reply_line};
+ghost use Rattle.mapdb_script.specs.Answering.{reply_line};
 ghost use Rattle.mapdb_script.specs.Run.{HasEnded};
 ghost use Rattle.mapdb_script.specs.Script.{fault_line};
 ghost use Rattle.l4map.specs.Threaded.{BlamesThreads, IsTextWritten, TellsThreads};

@@ -1,6 +1,6 @@
 -- What one call does to a cluster, with memory as far as its reply tells.
-use Rattle.std.specs.Prelude.{◌≡◌, ◌⊎◌, ℕ, ◌<◌, true, List, length, take, slice_get, Some, Result}
-use Rattle.std.specs.Prelude.{Ok, Err}
+use Rattle.std.specs.Prelude.{◌≡◌, ◌⊎◌, ℕ, ◌<◌, true, List, [], ◌∷◌, ◌++◌, length, take, slice_get}
+use Rattle.std.specs.Prelude.{Some, Result, Ok, Err, IsOk}
 use Rattle.mapdb_facts.specs.declared.operations.Op.{Op}
 use Rattle.mapdb_replica.specs.Memory.{EndsAfter, Enough, Memory, ends, issue_fault_memory}
 use Rattle.mapdb_replica.specs.Memory.{take_fault_memory}
@@ -10,6 +10,8 @@ use Rattle.mapdb_replica.specs.Taking.{Takes, take_outcome}
 use Rattle.mapdb_replica.specs.Telling.{TellsResult}
 use Rattle.mapdb_replica.specs.declared.commands.Applied.{Applied}
 use Rattle.mapdb_replica.specs.declared.commands.Applied.TheVariants as applied
+use Rattle.mapdb_replica.specs.declared.faults.GiveFault.{GiveFault}
+use Rattle.mapdb_replica.specs.declared.faults.GiveFault.TheVariants as give
 use Rattle.mapdb_replica.specs.declared.faults.IssueFault.{IssueFault}
 use Rattle.mapdb_cluster.specs.Net.{Done, Net, event_done, taken_reply}
 use Rattle.mapdb_cluster.specs.Run.{after, all_done}
@@ -21,6 +23,7 @@ use Rattle.mapdb_cluster.specs.declared.events.Reply.TheVariants.{Ended, Issued,
 use Rattle.mapdb_cluster.specs.declared.events.Reply.TheVariants.{Sent, Taken}
 use Rattle.mapdb_cluster.specs.declared.runs.RunFault.{RunFault}
 use Rattle.mapdb_cluster.specs.declared.runs.RunFault.TheVariants as run
+use Rattle.mapdb_cluster.specs.declared.sending.SentMessage.{SentMessage}
 
 -- how far memory lasted, as a refusal tells
 abbrev pub refusal_memory : Refusal → Memory
@@ -81,6 +84,22 @@ abbrev pub TakesWith : List Op → Log → Reply → Log → Type 0
 TakesWith batch old reply new =
     TellsResult taken_reply reply
     (λ result. Takes batch (take_outcome old.ops batch) result old new)
+
+-- What sending at a copy that gives these operations comes to, and leaves of the messages: they are
+-- the last message then, or nothing is changed.
+abbrev pub Sends : Result (List Op) GiveFault → List (List Op) → Result SentMessage GiveFault
+    → List (List Op) → Type 0
+Sends given old (Ok sent) new = (ops : List Op) × (given ≡ Ok ops)
+    × (sent ≡ record { message = length old; count = length ops })
+    × (new ≡ old ++ ops ∷ [])
+Sends given old (Err give.BadMark) new = (given ≡ Err give.BadMark) × (new ≡ old)
+Sends given old (Err give.Memory) new = IsOk given × (new ≡ old)
+
+-- the reply to a message that was sent, or was not
+abbrev pub sent_reply : Result SentMessage GiveFault → Reply
+sent_reply (Ok sent) = Sent sent.message sent.count
+sent_reply (Err give.BadMark) = Refused refusal.Mark
+sent_reply (Err give.Memory) = Refused refusal.Memory
 
 -- What a join within a list of copies is replied and leaves.
 abbrev pub Joins : List Log → ℕ → ℕ → Reply → List Log → Type 0

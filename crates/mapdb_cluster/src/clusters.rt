@@ -7,9 +7,10 @@ ghost use Rattle.mapdb_replica.specs.Replica.{empty};
 use crate::events::{Event, Refusal, Reply};
 use crate::issuing::issue;
 use crate::messages::Message;
+use crate::sending::{send, sent_reply};
 use crate::taking::{join, take};
 use mapdb_facts::PROCESSOR_LIMIT;
-use mapdb_replica::{Command, GiveFault, Replica};
+use mapdb_replica::{Command, Replica};
 use std::alloc::{AllocError, Global};
 use std::marker::Model;
 
@@ -100,17 +101,7 @@ impl Cluster {
         if from >= self.copies.len() {
             return Reply::Refused(Refusal::NoProcessor);
         }
-        let ops = match self.copies[from].give(first, end) {
-            Ok(ops) => ops,
-            Err(GiveFault::BadMark) => return Reply::Refused(Refusal::Mark),
-            Err(GiveFault::Memory) => return Reply::Refused(Refusal::Memory),
-        };
-        let message = self.messages.len() as u64;
-        let count = ops.len() as u32;
-        match self.messages.push(Message::new(ops)) {
-            Ok(()) => Reply::Sent { message, count },
-            Err(_) => Reply::Refused(Refusal::Memory),
-        }
+        sent_reply(send(&self.copies[from], first, end, &mut self.messages))
     }
 
     /// Delivers a message to a processor.

@@ -25,9 +25,11 @@ mod issuing;
 pub mod laws;
 mod messages;
 mod runs;
+mod sending;
 mod taking;
 
 pub use clusters::{Cluster, new_copies};
 pub use events::{Event, Refusal, Reply};
 pub use messages::Message;
 pub use runs::RunFault;
+pub use sending::{SentMessage, send};

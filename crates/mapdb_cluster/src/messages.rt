@@ -22,7 +22,7 @@ impl Message {
     ghost use Rattle.std.specs.Prelude.{◌≡◌};
 
     /// A message of these operations.
-    pub fn new(ops: Vec<Op>) -> Message
+    pub(crate) fn new(ops: Vec<Op>) -> Message
         ensures { result ≡ ops.items }
     {
         Message { ops }

@@ -20,14 +20,14 @@ use Rattle.mapdb_cluster.specs.declared.events.Event.TheVariants as event
 use Rattle.mapdb_cluster.specs.declared.events.Refusal.TheVariants as move_refusal
 use Rattle.mapdb_cluster.proofs.Steps.StepTells.{with_same}
 use Rattle.mapdb_script.specs.Accepting.{heard}
-use Rattle.mapdb_script.specs.Cluster.{Answered, Cluster, LineDone, Refused, accepting, happened, line_done, loaded}
+use Rattle.mapdb_script.specs.Answering.{Answered, ScriptCluster, LineDone, Refused, accepting, happened, line_done, loaded}
 use Rattle.mapdb_script.specs.Reply.{taken_text}
 use Rattle.mapdb_script.specs.States.{AnswersText, Does, IsTakeTold, IsToldAs}
-use Rattle.mapdb_script.specs.declared.cluster.Reply.{Reply as Answer}
+use Rattle.mapdb_script.specs.declared.answering.Reply.{Reply as Answer}
 use Rattle.mapdb_lines.specs.declared.fault.LineFault.{LineFault}
 use Rattle.mapdb_script.specs.declared.replies.Refusal.TheVariants as refusal
 use Rattle.mapdb_script.specs.declared.turn_fault.TurnFault.{TurnFault}
-use Rattle.mapdb_script.proofs.ClusterLemmas.{at_there, refused_told}
+use Rattle.mapdb_script.proofs.AnsweringLemmas.{at_there, refused_told}
 
 -- where a copy is, there is a cluster
 some_copy : (copies : List Log) (at : ℕ) (copy : Log) → slice_get copies at ≡ Some copy → nat_lt 0 (length copies) ≡ true
@@ -35,7 +35,7 @@ some_copy copies at copy there =
     let within = slice_get_within copies at copy there in
     lt-ltb 0 (length copies) (omega (arith, within))
 
-module _ (c : Cluster) (move : Move) where
+module _ (c : ScriptCluster) (move : Move) where
   -- a refusal is told as it is, or that memory ran out
   told_as : (why fault : TakeFault) (result : Result Answer TurnFault) → (fault ≡ why) ⊎ (fault ≡ take.Memory 0) → IsToldAs (move_refusal.Take fault) result
       → Does result c (Ok (line_done c move (refused c.net (move_refusal.Take why))))
@@ -61,7 +61,7 @@ module _ (c : Cluster) (move : Move) where
       (take_refusal_told why fault result takes.0 told)
 
 -- a message that came to a copy
-pub delivery_told : (c : Cluster) (at message : ℕ) (copy new : Log) (batch : List Op) (taken : Result ℕ TakeFault) (result : Result Answer TurnFault)
+pub delivery_told : (c : ScriptCluster) (at message : ℕ) (copy new : Log) (batch : List Op) (taken : Result ℕ TakeFault) (result : Result Answer TurnFault)
     → at < length c.net.copies → copy ≡ get_or c.net.copies at copy → slice_get c.net.messages message ≡ Some batch
     → Takes batch (take_outcome copy.ops batch) taken copy new → IsTakeTold taken result
     → Does result (record { net = with_copy c.net at new; accepted = heard c.accepted at (is_ok taken) }) (happened c (event.Deliver message at))
@@ -71,7 +71,7 @@ delivery_told c at message copy new batch taken result within is sent takes told
     rw done (taken_told c (Happens (event.Deliver message at) Enough) at copy new batch (take_outcome copy.ops batch) taken result there.1 refl (take_cases batch (take_outcome copy.ops batch) taken copy new takes) told)
 
 -- a snapshot whose operations a copy was given
-pub load_told : (c : Cluster) (at : ℕ) (copy new : Log) (said : Result (List Op) SnapshotFault) (batch : List Op) (taken : Result ℕ TakeFault)
+pub load_told : (c : ScriptCluster) (at : ℕ) (copy new : Log) (said : Result (List Op) SnapshotFault) (batch : List Op) (taken : Result ℕ TakeFault)
     (result : Result Answer TurnFault) → at < length c.net.copies → copy ≡ get_or c.net.copies at copy → said ≡ Ok batch
     → Takes batch (take_outcome copy.ops batch) taken copy new → IsTakeTold taken result
     → Does result (record { net = with_copy c.net at new; accepted = heard c.accepted at (is_ok taken) }) (loaded c at said)
@@ -81,13 +81,13 @@ load_told c at copy new said batch taken result within is e takes told =
     rw done (taken_told c (Loads at batch Enough) at copy new batch (take_outcome copy.ops batch) taken result there.1 refl (take_cases batch (take_outcome copy.ops batch) taken copy new takes) told)
 
 -- a snapshot for a processor that is not there
-pub load_nowhere : (c : Cluster) (at : ℕ) (said : Result (List Op) SnapshotFault) → (nat_lt 0 (length c.net.copies) ≡ true) × (slice_get c.net.copies at ≡ None)
+pub load_nowhere : (c : ScriptCluster) (at : ℕ) (said : Result (List Op) SnapshotFault) → (nat_lt 0 (length c.net.copies) ≡ true) × (slice_get c.net.copies at ≡ None)
     → loaded c at said ≡ Ok (record { reply = Refused refusal.NoProcessor; cluster = c })
 load_nowhere c at (Ok batch) gone = rw (gone.0, gone.1) refl
 load_nowhere c at (Err f) gone = rw (gone.0, gone.1) refl
 
 -- a text that is no snapshot
-pub load_fault : (c : Cluster) (at : ℕ) (said : Result (List Op) SnapshotFault) (f : SnapshotFault) → at < length c.net.copies → said ≡ Err f
+pub load_fault : (c : ScriptCluster) (at : ℕ) (said : Result (List Op) SnapshotFault) (f : SnapshotFault) → at < length c.net.copies → said ≡ Err f
     → loaded c at said ≡ Ok (record { reply = Refused (refusal.Snapshot f); cluster = c })
 load_fault c at said f within e = elim (slice_get_cases c.net.copies at).1 [
   | inl found ↦ rw (e, some_copy c.net.copies at found.0 found.2, found.2) refl
@@ -109,26 +109,26 @@ missing_by net into from found true false e f is none =
 missing_by net into from found true true e f is none = cc
 
 -- two processors of which one is not there
-pub no_processors : (c : Cluster) (into from : ℕ) (found : Option (ℕ × ℕ)) → 0 < length c.net.copies
+pub no_processors : (c : ScriptCluster) (into from : ℕ) (found : Option (ℕ × ℕ)) → 0 < length c.net.copies
     → found ≡ cond (nat_lt into (length c.net.copies) && nat_lt from (length c.net.copies)) (Some (into, from)) None → found ≡ None
     → happened c (event.Join into from) ≡ Ok (record { reply = Refused refusal.NoProcessor; cluster = c })
 no_processors c into from found some is none =
     rw (lt-ltb 0 (length c.net.copies) some) (ap (λ (d : Done). let r : Result LineDone LineFault = Ok (line_done c (Happens (event.Join into from) Enough) d) in r)
     (missing_by c.net into from found (nat_lt into (length c.net.copies)) (nat_lt from (length c.net.copies)) refl refl is none))
 
-answer_told : (c : Cluster) (text : List ℕ) (result : Result Answer TurnFault) → AnswersText text result → Does result c (Ok (record { reply = Answered text; cluster = c }))
+answer_told : (c : ScriptCluster) (text : List ℕ) (result : Result Answer TurnFault) → AnswersText text result → Does result c (Ok (record { reply = Answered text; cluster = c }))
 answer_told c text (Ok reply) told = rw told refl
 answer_told c text (Err f) told = rw told tt
 
-merge_same_by : (c : Cluster) (at : ℕ) (copy : Log) (result : Result Answer TurnFault) → slice_get c.net.copies at ≡ Some copy → AnswersText (taken_text 0) result
+merge_same_by : (c : ScriptCluster) (at : ℕ) (copy : Log) (result : Result Answer TurnFault) → slice_get c.net.copies at ≡ Some copy → AnswersText (taken_text 0) result
     → Does result (record { net = c.net; accepted = heard c.accepted at true }) (happened c (event.Join at at))
 merge_same_by c at copy result there told =
-    let after : Cluster = record { net = c.net; accepted = heard c.accepted at true } in
+    let after : ScriptCluster = record { net = c.net; accepted = heard c.accepted at true } in
     let done : happened c (event.Join at at) ≡ Ok (record { reply = Answered (taken_text 0); cluster = after }) = rw (some_copy c.net.copies at copy there, there, eq-eqb at at refl) refl in
     rw done (answer_told after (taken_text 0) result told)
 
 -- a copy that takes all of itself
-pub merge_same : (c : Cluster) (into from : ℕ) (result : Result Answer TurnFault) → into < length c.net.copies → into ≡ from → AnswersText (taken_text 0) result
+pub merge_same : (c : ScriptCluster) (into from : ℕ) (result : Result Answer TurnFault) → into < length c.net.copies → into ≡ from → AnswersText (taken_text 0) result
     → Does result (record { net = c.net; accepted = heard c.accepted into true }) (happened c (event.Join into from))
 merge_same c into from result within e told = elim (slice_get_cases c.net.copies into).1 [
   | inl found ↦ rw (← e) (merge_same_by c into found.0 result found.2 told)
@@ -136,7 +136,7 @@ merge_same c into from result within e told = elim (slice_get_cases c.net.copies
 ]
 
 -- a copy that was given all that another one holds
-pub merge_told : (c : Cluster) (into from : ℕ) (copies : List Log) (taken : Result ℕ TakeFault) (result : Result Answer TurnFault)
+pub merge_told : (c : ScriptCluster) (into from : ℕ) (copies : List Log) (taken : Result ℕ TakeFault) (result : Result Answer TurnFault)
     → into ≢ from → Merges c.net.copies into from taken copies → IsTakeTold taken result
     → Does result (record { net = record { copies = copies; messages = c.net.messages }; accepted = heard c.accepted into (is_ok taken) }) (happened c (event.Join into from))
 merge_told c into from copies taken result apart merges told =

@@ -1,17 +1,17 @@
 //! What copies tell each other by the lines of a script, and how they compare.
 
-use crate::cluster::{Cluster, Reply};
+use crate::answering::{Reply, ScriptCluster};
 use crate::replies::{Refusal, covers_text, message_text, same_text};
 use crate::turn_fault::TurnFault;
-use mapdb_cluster::Message;
+use mapdb_cluster::send;
 use mapdb_lines::LineFault;
 use mapdb_replica::{GiveFault, merge_among};
 
-impl Cluster {
+impl ScriptCluster {
     ghost use Rattle.std.specs.Prelude.{◌≡◌, ◌<◌, ◌&&◌, IfOk, IfSome, OnOk, OnErr, Err, Some};
     ghost use Rattle.std.specs.Prelude.{None, length, nat_lt, if◌then◌else◌};
     ghost use Rattle.mapdb_cluster.specs.declared.events.Event.TheVariants as event;
-    ghost use Rattle.mapdb_script.specs.Cluster.{compared, covers_answer, happened, same_answer};
+    ghost use Rattle.mapdb_script.specs.Answering.{compared, covers_answer, happened, same_answer};
     ghost use Rattle.mapdb_script.specs.States.{Does, cluster_of};
 
     /// The places of two processors' copies, if the cluster has both.
@@ -45,14 +45,14 @@ impl Cluster {
         let Some(at) = self.place(at)? else {
             return Ok(Reply::Refused(Refusal::NoProcessor));
         };
-        let ops = match self.copies[at].give(first, end) {
-            Ok(ops) => ops,
-            Err(GiveFault::BadMark) => return Ok(Reply::Refused(Refusal::BadMark)),
-            Err(GiveFault::Memory) => return Err(TurnFault::Memory),
-        };
-        let text = message_text(self.alloc, self.messages.len(), ops.len())?;
-        self.messages.push(Message::new(ops))?;
-        Ok(Reply::Answered(text))
+        match send(&self.copies[at], first, end, &mut self.messages) {
+            Ok(sent) => {
+                let text = message_text(self.alloc, sent.message, sent.count)?;
+                Ok(Reply::Answered(text))
+            }
+            Err(GiveFault::BadMark) => Ok(Reply::Refused(Refusal::BadMark)),
+            Err(GiveFault::Memory) => Err(TurnFault::Memory),
+        }
     }
 
     /// Brings a message to a processor, whose copy takes its operations.

@@ -1,7 +1,7 @@
 use Rattle.std.proofs.Common.{refl}
 use Rattle.mapdb_script.specs.States.{cluster_of}
-use Rattle.mapdb_script.proofs.ClusterLemmas.{at_nowhere, command_accepted, command_nowhere, command_refused}
-use Rattle.mapdb_script.proofs.cluster.Cluster.command.Goals as goal
+use Rattle.mapdb_script.proofs.AnsweringLemmas.{at_nowhere, command_accepted, command_nowhere, command_refused}
+use Rattle.mapdb_script.proofs.answering.ScriptCluster.command.Goals as goal
 
 pub returns-in_default : goal.returns-in_default
 returns-in_default c =
