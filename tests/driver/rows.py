@@ -2,6 +2,7 @@
 
 from typing import Iterable
 
+from driver.faulty import faulty_lines
 from driver.program import Program, difference
 from driver.scripts import Script, examples, rows
 from driver.tally import Met, Tally
@@ -25,7 +26,10 @@ def run_all(
 
 
 def run_rows(program: Program) -> Tally:
-    """Runs all rows and examples."""
-    stored_rows, stored_examples = rows(), examples()
-    tally = run_all("rows", program, stored_rows + stored_examples)
-    return tally.end("%d rows and %d examples" % (len(stored_rows), len(stored_examples)))
+    """Runs all rows, examples and faulty lines."""
+    stored_rows, stored_examples, faulty = rows(), examples(), faulty_lines()
+    tally = run_all("rows", program, stored_rows + stored_examples + faulty)
+    return tally.end(
+        "%d rows, %d examples and %d faulty lines"
+        % (len(stored_rows), len(stored_examples), len(faulty))
+    )

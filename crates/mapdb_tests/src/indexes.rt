@@ -1,12 +1,19 @@
 //! What the index of a copy tells, beside what the recursion of rights says.
 
-use super::{end, id, issue_all, map, space, unmap};
+use crate::commands::{end, id, map, space, unmap};
 use crate::orders::ORDERS;
 use mapdb_facts::{Facts, RecordId, Space};
 use mapdb_fpage::Rights;
-use mapdb_replica::Replica;
+use mapdb_replica::{Command, Replica};
 use mapdb_rights::{RightsIndex, RightsRun, live_after, rights_of};
 use std::process::Abort;
+
+/// Does commands at a copy, and asserts that they are done.
+fn issue_all(rt: &impl Abort, copy: &mut Replica, commands: &[Command]) {
+    for command in commands {
+        assert!(rt; copy.apply(command).is_ok());
+    }
+}
 
 /// Pages round those that the commands of these tests name.
 const PAGES: [u64; 10] = [0, 0x0f, 0x10, 0x11, 0x1f, 0x20, 0x21, 0x2f, 0x30, 0x31];
@@ -90,10 +97,10 @@ fn take_all(rt: &impl Abort, copy: &mut Replica, other: &Replica, order: &[u32; 
 #[test]
 fn index_in_every_delivery_order(rt: HostRuntime) {
     let commands = [
-        (map((0, 0x10000), (1, 0x20000), 12, 6), 1),
-        (map((1, 0x20000), (2, 0x30000), 12, 6), 1),
-        (unmap(1, 0x20000, 12, 2), 1),
-        (end(3), 1),
+        map((0, 0x10000), (1, 0x20000), 12, 6),
+        map((1, 0x20000), (2, 0x30000), 12, 6),
+        unmap(1, 0x20000, 12, 2),
+        end(3),
     ];
     let mut copy = Replica::new(rt.alloc(), 0);
     issue_all(&rt, &mut copy, &commands);
@@ -106,13 +113,13 @@ fn index_in_every_delivery_order(rt: HostRuntime) {
 #[test]
 fn index_of_revoked_grandchild(rt: HostRuntime) {
     let commands = [
-        (map((0, 0x10000), (1, 0x20000), 12, 6), 1),
-        (map((1, 0x20000), (2, 0x30000), 12, 7), 1),
-        (unmap(0, 0x10000, 12, 2), 1),
+        map((0, 0x10000), (1, 0x20000), 12, 6),
+        map((1, 0x20000), (2, 0x30000), 12, 7),
+        unmap(0, 0x10000, 12, 2),
     ];
     let mut copy = Replica::new(rt.alloc(), 0);
     issue_all(&rt, &mut copy, &commands);
     expect_index(&rt, &copy);
-    issue_all(&rt, &mut copy, &[(end(1), 1)]);
+    issue_all(&rt, &mut copy, &[end(1)]);
     expect_index(&rt, &copy);
 }

@@ -1,6 +1,7 @@
 //! Runs of many events, and messages of many operations. No event runs out of memory there.
 
-use super::{deliver, end, send};
+use super::{deliver, issue, send};
+use crate::commands::end;
 use mapdb_cluster::{Cluster, Reply};
 use std::test::Fail;
 
@@ -8,7 +9,7 @@ use std::test::Fail;
 fn long_runs(rt: HostRuntime) -> Result<(), Fail> {
     let mut events = Vec::new(rt.alloc());
     for number in 1..=u16::MAX {
-        events.push(end(0, number))?;
+        events.push(issue(0, end(number)))?;
     }
     let mut cluster = Cluster::new(rt.alloc(), 2)?;
     let replies = cluster.run(events.as_slice()).ok().ok_or("memory")?;

@@ -1,65 +1,19 @@
 //! What outside examples say of clusters.
 
+use crate::commands::{end, map, rights, space, unmap};
 use crate::orders::ORDERS;
 use mapdb_cluster::{Cluster, Event, Refusal, Reply};
-use mapdb_facts::Space;
-use mapdb_fpage::{Fpage, MapItem, Rights};
+use mapdb_fpage::Rights;
 use mapdb_replica::Command;
 use std::alloc::Global;
 use std::process::Abort;
 use std::test::Fail;
 
-mod copies;
 mod sizes;
 
-/// The space of this number.
-fn space(number: u16) -> Space {
-    Space::first(number)
-}
-
-/// The rights of these bits.
-fn rights(bits: u8) -> Result<Rights, Fail> {
-    Ok(Rights::from_bits(bits).ok_or("a set of rights")?)
-}
-
-/// A Map of one page at a processor.
-fn map(at: u8, from: u16, source: u64, bits: u8, to: u16, target: u64) -> Result<Event, Fail> {
-    Ok(Event::Issue {
-        at,
-        command: Command::Map {
-            sender: space(from),
-            item: MapItem {
-                send_base: 0,
-                page: Some(Fpage::new(source, 12)?),
-                rights: rights(bits)?,
-            },
-            receiver: space(to),
-            window: Some(Fpage::new(target, 12)?),
-        },
-    })
-}
-
-/// An Unmap of one page at a processor.
-fn unmap(at: u8, number: u16, addr: u64, bits: u8, flush: bool) -> Result<Event, Fail> {
-    Ok(Event::Issue {
-        at,
-        command: Command::Unmap {
-            space: space(number),
-            page: Some(Fpage::new(addr, 12)?),
-            rights: rights(bits)?,
-            flush,
-        },
-    })
-}
-
-/// The end of a space at a processor.
-fn end(at: u8, number: u16) -> Event {
-    Event::Issue {
-        at,
-        command: Command::End {
-            space: space(number),
-        },
-    }
+/// A command at a processor.
+fn issue(at: u8, command: Command) -> Event {
+    Event::Issue { at, command }
 }
 
 /// A message with operations of processor 0.
@@ -96,10 +50,10 @@ fn expect_rights(
 fn four_messages(rt: &impl Abort, alloc: Global) -> Result<Cluster, Fail> {
     let mut cluster = Cluster::new(alloc, 2)?;
     let events = [
-        map(0, 0, 0x10000, 6, 1, 0x20000)?,
-        map(0, 1, 0x20000, 6, 2, 0x30000)?,
-        unmap(0, 1, 0x20000, 2, false)?,
-        end(0, 3),
+        issue(0, map((0, 0x10000), (1, 0x20000), 12, 6)),
+        issue(0, map((1, 0x20000), (2, 0x30000), 12, 6)),
+        issue(0, unmap(1, 0x20000, 12, 2)),
+        issue(0, end(3)),
         send(0, 1),
         send(1, 2),
         send(2, 3),
@@ -140,7 +94,7 @@ fn expect_delivered(rt: &impl Abort, alloc: Global, order: &[u32; 4]) -> Result<
     }
     let (copy, other) = (cluster.copy(0), cluster.copy(1));
     assert!(rt; copy.ok_or("copy 0")?.same(other.ok_or("copy 1")?));
-    expect_rights(rt, &cluster, 1, 2, 0x30, &[(0x10, rights(4)?)])
+    expect_rights(rt, &cluster, 1, 2, 0x30, &[(0x10, rights(4))])
 }
 
 #[test]
@@ -170,7 +124,7 @@ fn missing_things(rt: HostRuntime) -> Result<(), Fail> {
     let absent = Event::Deliver { message: 9, to: 0 };
     assert_eq!(rt; cluster.step(&absent), Reply::Refused(Refusal::NoMessage));
     assert_eq!(rt;
-        cluster.step(&end(7, 3)),
+        cluster.step(&issue(7, end(3))),
         Reply::Refused(Refusal::NoProcessor)
     );
     assert!(rt; cluster.copy(1).is_none());

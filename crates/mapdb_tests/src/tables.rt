@@ -1,7 +1,7 @@
 //! What outside examples say of tables. Both builds are asked, and events are made before copies:
 //! tests are short, since a test with many borrows is long to prove.
 
-use mapdb_facts::Space;
+use crate::commands::{place, space};
 use mapdb_fpage::{Fpage, MapItem, Rights};
 use mapdb_replica::Replica;
 use mapdb_table::{TableRow, build, build_plain, find};
@@ -9,16 +9,6 @@ use std::alloc::{AllocError, Global};
 use std::process::Abort;
 use std::test::Fail;
 use std::thread::Threads;
-
-/// The space of a number.
-fn space(number: u16) -> Space {
-    Space::first(number)
-}
-
-/// The place of `2^order` bytes at a byte address.
-fn place(addr: u64, order: u8) -> Option<Fpage> {
-    Fpage::new(addr, order).ok()
-}
 
 /// A row with all rights.
 fn row(number: u16, page: u64, count: u64, frame: u64) -> TableRow {
@@ -66,25 +56,6 @@ fn expect_rows<R: Abort + Threads + Sync>(
 ) {
     assert!(rt; are(build_plain(alloc, copy), wanted));
     assert!(rt; are(build(rt, alloc, copy), wanted));
-}
-
-#[test]
-fn flush_one_page_of_four(rt: HostRuntime) -> Result<(), Fail> {
-    let mut wanted = Vec::new(rt.alloc());
-    wanted.push(row(0, 0, 1 << 36, 0))?;
-    wanted.push(row(1, 0x40, 1, 0x10))?;
-    wanted.push(row(1, 0x42, 2, 0x12))?;
-    wanted.push(row(2, 0x80, 1, 0x10))?;
-    wanted.push(row(2, 0x82, 2, 0x12))?;
-    let mut copy = Replica::new(rt.alloc(), 0);
-    map(&rt, &mut copy, 0, place(0x10000, 14), 1, place(0x40000, 14));
-    map(&rt, &mut copy, 1, place(0x40000, 14), 2, place(0x80000, 14));
-    assert!(rt;
-        copy.unmap(space(1), place(0x41000, 12), Rights::ALL, true)
-            .is_ok()
-    );
-    expect_rows(&rt, rt.alloc(), &copy, wanted.as_slice());
-    Ok(())
 }
 
 /// Maps one page of the first space into another.

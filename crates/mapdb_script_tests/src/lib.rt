@@ -1,9 +1,0 @@
-//! Tests of lines and scripts, through what these libraries offer to others.
-//!
-//! They stand in a crate beside the libraries, so that each library is proved once for all of them.
-#![tactic(auto)]
-
-#[cfg(test)]
-mod lines;
-#[cfg(test)]
-mod script;
