@@ -1,5 +1,5 @@
-//! What no clause says of calls that neither a script nor the library for C makes: that they succeed
-//! with ample memory, and at great sizes; and that an index is there.
+//! What no clause says of calls that neither a script nor the library for C makes: that they
+//! succeed with ample memory, and at great sizes; and that an index is there.
 //!
 //! They stand in a crate beside the libraries, so that each library is proved once for all of them.
 //! Values are made before copies, and assertions stand in functions of their own: a test with many
