@@ -9,7 +9,7 @@ use Rattle.std.proofs.lemmas.Bool.Decides.{nat_tests}
 use Rattle.mapdb_lines.proofs.LineLemmas.{Consumes-append}
 use Rattle.mapdb_picture.specs.declared.faults.LoadFault.{LoadFault}
 use Rattle.mapdb_picture.specs.declared.faults.LoadFault.TheVariants.{Memory}
-use Rattle.l4map.specs.Snapshots.{IsFront, IsUnread, TellsSnapshot, answer_told, tell_out_of_memory}
+use Rattle.l4map.specs.Snapshots.{IsAll, IsFront, IsUnread, TellsSnapshot, answer_told, tell_out_of_memory}
 use Rattle.l4map.specs.declared.snapshots.Asked.{Asked}
 use Rattle.l4map.specs.declared.snapshots.TellFault.{TellFault}
 use Rattle.l4map.specs.declared.snapshots.TellFault.TheVariants.{Load, Read, TooLong, Write}
@@ -43,7 +43,7 @@ unread_told asked (Load fault) input Over h = (refl, inl h)
 
 -- what a text of which a front was written tells
 pub front_told : (asked : Asked) (result : Result (Unit {0}) TellFault) (input whole front : List ℕ) (Over : Type 0)
-    → Over → answer_told asked input ≡ Ok whole → IsFront result whole front → TellsSnapshot asked result input front Over
+    → IsAll input Over → answer_told asked input ≡ Ok whole → IsFront result whole front → TellsSnapshot asked result input front Over
 front_told asked (Ok done) input whole front Over over is written = (over, is ∙ ap (λ (bs : List ℕ). Ok bs) (sym written))
 front_told asked (Err Write) input whole front Over over is written = (over, (whole, is, written))
 front_told asked (Err Read) input whole front Over over is written = absurd written
@@ -79,7 +79,7 @@ piece_read count room piece rest is = ap (λ (bs : List ℕ). take count bs) (ap
 
 -- what is told where nothing is told of a text
 pub fault_told : (asked : Asked) (result : Result (Unit {0}) TellFault) (input : List ℕ) (fault : LoadFault) (Over : Type 0) → IsErr result → IsErrAnd result (λ (why : TellFault). why ≡ Load fault)
-    → Over → (fault ≡ Memory) ⊎ (answer_told asked input ≡ Err fault) → TellsSnapshot asked result input [] Over
+    → IsAll input Over → (fault ≡ Memory) ⊎ (answer_told asked input ≡ Err fault) → TellsSnapshot asked result input [] Over
 fault_told asked (Ok done) input fault Over h k over told = absurd (false≢true h)
 fault_told asked (Err why) input fault Over h k over told =
     subst (λ (x : TellFault). TellsSnapshot asked (Err x) input [] Over) (sym k)

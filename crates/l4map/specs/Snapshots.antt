@@ -1,5 +1,5 @@
 -- What is told of a snapshot, and how that ends.
-use Rattle.std.specs.Prelude.{◌≡◌, ◌⊎◌, ◌↔◌, ℕ, ◌<◌, Bool, true, List, [], ◌++◌, length, Result}
+use Rattle.std.specs.Prelude.{◌≡◌, ◌⊎◌, ◌↔◌, ℕ, ◌<◌, ◌≤◌, Bool, true, List, [], ◌++◌, length, Result}
 use Rattle.std.specs.Prelude.{Ok, Err, codes}
 use Rattle.mapdb_lines.specs.Fronts.{BeginsWith}
 use Rattle.mapdb_lines.specs.Limits.{line_limit}
@@ -43,16 +43,21 @@ IsFront (Err Read) whole front = ⊥
 IsFront (Err TooLong) whole front = ⊥
 IsFront (Err (Load fault)) whole front = ⊥
 
+-- all was read, and it is no longer than a line of a script may be
+abbrev pub IsAll : List ℕ → Type 0 → Type 0
+IsAll input Over = Over × (length input ≤ line_limit)
+
 -- What was written for an input of which this was read; `Over` says that the reader is over.
 -- Nothing is written where the input is too long, or is no snapshot that a copy can hold.
 abbrev pub TellsSnapshot : Asked → Result (Unit {0}) TellFault → List ℕ → List ℕ → Type 0 → Type 0
-TellsSnapshot asked (Ok done) input text Over = Over × (answer_told asked input ≡ Ok text)
+TellsSnapshot asked (Ok done) input text Over = IsAll input Over
+    × (answer_told asked input ≡ Ok text)
 TellsSnapshot asked (Err Read) input text Over = text ≡ []
-TellsSnapshot asked (Err Write) input text Over = Over
+TellsSnapshot asked (Err Write) input text Over = IsAll input Over
     × ((whole : List ℕ) × (answer_told asked input ≡ Ok whole) × BeginsWith whole text)
 TellsSnapshot asked (Err TooLong) input text Over = (text ≡ []) × (line_limit < length input)
 TellsSnapshot asked (Err (Load fault)) input text Over =
-    (text ≡ []) × ((fault ≡ Memory) ⊎ (Over × (answer_told asked input ≡ Err fault)))
+    (text ≡ []) × ((fault ≡ Memory) ⊎ (IsAll input Over × (answer_told asked input ≡ Err fault)))
 
 -- The reader or the writer is blamed exactly where that one has failed.
 abbrev pub BlamesSnapshot : Result (Unit {0}) TellFault → Bool → Bool → Type 0

@@ -8,6 +8,7 @@ use Rattle.mapdb_exchange.specs.declared.faults.RunFault.{RunFault}
 use Rattle.mapdb_exchange.specs.declared.faults.RunFault.TheVariants as run
 use Rattle.mapdb_exchange.specs.declared.reports.Part.{Part}
 use Rattle.mapdb_lines.specs.Fronts.{BeginsWith}
+use Rattle.mapdb_lines.specs.Reading.{EndsNear}
 use Rattle.mapdb_script.specs.declared.faults.ScriptFault.TheVariants as script
 use Rattle.mapdb_script.specs.Answering.{reply_line}
 use Rattle.mapdb_script.specs.Reply.{same_text}
@@ -63,14 +64,15 @@ IsTextWritten (Err (Script (script.Line number f))) whole front = ⊥
 IsTextWritten (Err (Run why)) whole front = ⊥
 
 -- What was written for an input of which this was read; `Over` says that the reader is over. At a
--- faulty line the reader is over, or no further bytes would change the answer. Nothing is written
--- where the exchange gives no report; the count is at fault exactly where there are none or too
--- many scripts.
+-- faulty line the reader is over, or no further bytes would change the answer, and little was read
+-- behind that line. Nothing is written where the exchange gives no report; the count is at fault
+-- exactly where there are none or too many scripts.
 abbrev pub TellsThreads : ℕ → Result (Unit {0}) ThreadsFault → List ℕ → List ℕ → Type 0 → Type 0
 TellsThreads capacity (Ok done) input text Over = Over × IsReport capacity input text
 TellsThreads capacity (Err (Script (script.Line number f))) input text Over =
     (scripts_of input ≡ Err (number, f)) × (text ≡ fault_line number f)
     × (Over ⊎ ((more : List ℕ) → scripts_of (input ++ more) ≡ scripts_of input))
+    × EndsNear number input
 TellsThreads capacity (Err (Script script.Read)) input text Over = text ≡ []
 TellsThreads capacity (Err (Script script.Write)) input text Over =
     (whole : List ℕ) × (IsReport capacity input whole ⊎ IsFaultLine input whole)

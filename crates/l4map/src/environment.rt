@@ -39,7 +39,13 @@ pub struct Status {
 }
 
 impl Termination for Status {
-    fn report<R: Eprint>(self, _rt: &R) -> ExitCode {
+    ghost use Rattle.std.specs.Prelude.{◌≡◌};
+    ghost use Rattle.std.specs.Process.{exit_status};
+
+    /// The exit status is this one.
+    fn report<R: Eprint>(self, _rt: &R) -> ExitCode
+        ensures { exit_status result ≡ self.code }
+    {
         ExitCode::from(self.code)
     }
 }

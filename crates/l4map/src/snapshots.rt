@@ -1,8 +1,9 @@
 //! What is told of a snapshot that a reader has.
 
 ghost use Rattle.std.specs.Prelude.{◌≡◌, ◌≤◌, ◌⊎◌, ℕ, List, Ok, Err, false, true, IfOk, IfErr};
-ghost use Rattle.std.specs.Prelude.{OnOk, string_bytes};
+ghost use Rattle.std.specs.Prelude.{OnOk, length, string_bytes};
 ghost use Rattle.std.specs.Io.KnownBytes.{Appends, Consumes};
+ghost use Rattle.mapdb_lines.specs.Limits.{line_limit};
 ghost use Rattle.mapdb_script.specs.Run.{HasEnded};
 ghost use Rattle.l4map.specs.Snapshots.{BlamesSnapshot, IsFront, IsUnread, TellsSnapshot};
 ghost use Rattle.l4map.specs.Snapshots.{answer_told};
@@ -79,6 +80,7 @@ fn read_all<R: Source>(alloc: Global, reader: &mut R) -> Result<Vec<u8>, TellFau
     ensures read { (input : List ℕ) × Consumes (R.left reader.old) (R.left reader.new) input
         × IfOk result (λ bytes. bytes.items ≡ input) × IfErr result (λ why. IsUnread why input) }
     ensures over { OnOk result (HasEnded (R.has_ended reader.new) (R.left reader.new)) }
+    ensures short { IfOk result (λ bytes. length bytes.items ≤ line_limit) }
     ensures failed { result ≡ Err TellFault.Read → R.has_failed reader.new ≡ true }
     ensures works { (result ≡ Err TellFault.Read) ⊎ (R.has_failed reader.new ≡ false) }
 {

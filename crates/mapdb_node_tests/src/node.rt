@@ -5,7 +5,7 @@
 
 use mapdb_facts::Space;
 use mapdb_fpage::{Fpage, MapItem, PAGE_BYTES, Rights};
-use mapdb_node::{CloseFault, Node, NodeEvent, NodeReply, Seat, SeatFault};
+use mapdb_node::{CloseFault, Node, NodeEvent, NodeReply, Seat};
 use mapdb_replica::Command;
 use std::alloc::Global;
 use std::fmt::Debug;
@@ -17,6 +17,7 @@ use std::thread::Threads;
 
 mod books;
 mod gates;
+mod seats;
 
 /// Asserts that what was found is what is wanted.
 fn expect<T: Copy + Debug + PartialEq>(rt: &impl Abort, found: T, wanted: T) {
@@ -198,50 +199,4 @@ fn copy_per_seat(rt: HostRuntime) -> Result<(), Fail> {
     let wanted = NodeReply::Served(Some((7, Rights::ALL)));
     expect(&rt, read, Some(wanted));
     Ok(())
-}
-
-#[test]
-fn seat_of_another_node(rt: HostRuntime) -> Result<(), Fail> {
-    let node = Node::new(rt.alloc(), 0);
-    let another = Node::new(rt.alloc(), 1);
-    match (node.seat(&rt), another.seat(&rt)) {
-        (Ok(one), Ok(strange)) => expect_two(
-            &rt,
-            rt.alloc(),
-            node,
-            [one, strange],
-            Closed::StrangeSeat,
-        ),
-        _ => Err(Fail::from("no seats")),
-    }
-}
-
-/// A call takes no seat of a node's 64.
-#[test]
-fn too_many_seats(rt: HostRuntime) -> Result<(), Fail> {
-    let node = Node::new(rt.alloc(), 0);
-    let Ok(mut first) = node.seat(&rt) else {
-        return Err(Fail::from("no seat"));
-    };
-    assert!(rt; map_and_read(&rt, &node, &mut first, 7, 1));
-    for _ in 1..64 {
-        assert!(rt; node.seat(&rt).is_ok());
-    }
-    expect(&rt, node.seat(&rt).err(), Some(SeatFault::NoSeat));
-    Ok(())
-}
-
-/// A seat of many calls needs no memory for one more.
-#[test]
-fn many_calls(rt: HostRuntime) -> Result<(), Fail> {
-    let node = Node::new(rt.alloc(), 3);
-    let Ok(mut seat) = node.seat(&rt) else {
-        return Err(Fail::from("no seat"));
-    };
-    let mut all_done = true;
-    for _ in 0..20_000 {
-        all_done &= node.call(&rt, &mut seat, served(7, 1)).is_ok();
-    }
-    assert!(rt; all_done);
-    expect_one(&rt, rt.alloc(), node, seat, Closed::Entries(20_000))
 }

@@ -6,15 +6,16 @@ use mapdb_fpage::{PAGE_LIMIT, Rights};
 use mapdb_node::{Book, BookFault, MOST_ENTRIES, NodeEvent, NodeReply};
 use std::process::Abort;
 
-/// Asserts what an event is replied, and its place.
+/// Asserts what an event of a seat is replied, and its place.
 fn expect_reply(
     rt: &impl Abort,
     book: &mut Book,
+    seat: u32,
     event: &NodeEvent,
     place: u32,
     reply: &NodeReply,
 ) {
-    match book.apply(0, *event) {
+    match book.apply(seat, *event) {
         Ok(told) => {
             assert_eq!(rt; told.place, place);
             assert_eq!(rt; told.reply, *reply);
@@ -40,7 +41,7 @@ fn each_event(rt: HostRuntime) {
     ];
     let mut book = Book::new(rt.alloc(), 0);
     for (place, (event, reply)) in events.iter().zip(&replies).enumerate() {
-        expect_reply(&rt, &mut book, event, place as u32, reply);
+        expect_reply(&rt, &mut book, 0, event, place as u32, reply);
     }
     expect(&rt, book.journal().len(), 4);
     expect(&rt, book.copy().log_len(), 2);
@@ -51,9 +52,10 @@ fn served_pages(rt: HostRuntime) {
     let last = PAGE_LIMIT - 1;
     let found = NodeReply::Served(Some((last, Rights::ALL)));
     let mut book = Book::new(rt.alloc(), 0);
-    expect_reply(&rt, &mut book, &served(last, 0), 0, &found);
+    expect_reply(&rt, &mut book, 0, &served(last, 0), 0, &found);
     let beyond = served(PAGE_LIMIT, 0);
-    expect_reply(&rt, &mut book, &beyond, 1, &NodeReply::Served(None));
+    let nothing = NodeReply::Served(None);
+    expect_reply(&rt, &mut book, u32::MAX, &beyond, 1, &nothing);
 }
 
 #[test]

@@ -71,7 +71,7 @@ fn open_gate(rt: HostRuntime) -> Result<(), Fail> {
     expect_one(&rt, rt.alloc(), node, seat, Closed::Entries(1))
 }
 
-/// Lets the three points of one call at the copy of processor 3 pass in their order, and nothing
+/// Lets the three points of one call at the copy of processor 63 pass in their order, and nothing
 /// else.
 #[derive(Drop)]
 struct InOrder {
@@ -85,7 +85,7 @@ impl Gate for InOrder {
             Point::Held => 1,
             Point::After => 2,
         };
-        if processor == 3 && self.passed.fetch_add(1, Ordering::SeqCst) == place {
+        if processor == 63 && self.passed.fetch_add(1, Ordering::SeqCst) == place {
             Ok(())
         } else {
             Err(GateFault)
@@ -98,7 +98,7 @@ fn each_point_once(rt: HostRuntime) -> Result<(), Fail> {
     let gate = InOrder {
         passed: AtomicU64::new(0),
     };
-    let node = Node::new(rt.alloc(), 3);
+    let node = Node::new(rt.alloc(), 63);
     let Ok(mut seat) = node.seat(&rt) else {
         return Err(Fail::from("no seat"));
     };

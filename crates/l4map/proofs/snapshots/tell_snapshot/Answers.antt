@@ -20,7 +20,7 @@ returns-in_err-text-clause-told g c =
       read_input (g.R.Source.left c.args.reader.now) (g.R.Source.left c.read_all.new.reader) read.0 c.in_ok-input.input.items read.1 read.2,
       appends-none (g.W.Sink.written c.args.writer.now),
       fault_told c.args.asked c.from_residual-in_err-text.result c.in_ok-input.input.items fault _ c.from_residual-in_err-text.ensures.0 c.from_residual-in_err-text.ensures.1
-          c.in_ok-input.ensures.over
+          (c.in_ok-input.ensures.over, c.in_ok-input.ensures.short)
           (subst (λ (bs : List ℕ). (fault ≡ Memory) ⊎ (answer_told c.args.asked bs ≡ Err fault)) c.as_slice.ensures.value c.in_err-text.ensures.err),
     )
 
@@ -34,5 +34,5 @@ returns-clause-told g c =
       written.0,
       read_input (g.R.Source.left c.args.reader.now) (g.R.Source.left c.read_all.new.reader) read.0 c.in_ok-input.input.items read.1 read.2,
       written.1,
-      front_told c.args.asked c.write_text.result c.in_ok-input.input.items c.as_str.result.now written.0 _ c.in_ok-input.ensures.over told written.2,
+      front_told c.args.asked c.write_text.result c.in_ok-input.input.items c.as_str.result.now written.0 _ (c.in_ok-input.ensures.over, c.in_ok-input.ensures.short) told written.2,
     )
