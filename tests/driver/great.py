@@ -145,6 +145,7 @@ def copy_filled() -> Script:
         ("unmap 0 1 0/12:-w- flush", "revocations 1"),
         ("end 0 60000", "ended 60000"),
         ("end 0 60001", "refused full"),
+        ("load 0 " + wide_load([], [60001], []), "refused full"),
         ("map 0 0 0/12:rwx 0 1 0/12", "refused full"),
         ("unmap 0 1 1000/12:rwx flush", "refused full"),
         ("unmap 0 1 0/12:-w- flush", "revocations 0"),
@@ -224,10 +225,38 @@ def pages_in_orders(count: int) -> Script:
             row(0, count, PAGES - count, count, "rwx")]))])
 
 
+def cuts_alone() -> Script:
+    """As many revocations as a copy holds, each from a record of its own that is not there."""
+    text = wide_load(range(1, CHAIN + 1), [], [])
+    return script_of("cuts_alone", [
+        ("processors 1", ""),
+        ("load 0 " + text, "taken %d" % CHAIN),
+        ("save 0", "snapshot " + text)])
+
+
+def space_each() -> Script:
+    """As many records as a copy holds, each in a space of its own, and the table of them."""
+    spaces = {number: (number % 65535 or 65535, number // 65536) for number in range(1, CHAIN + 1)}
+    records = [
+        "[%d,0,%d,%d,32,12,0,0,%d,7]" % (number, *space, number)
+        for number, space in spaces.items()
+    ]
+    table = ["table %d" % (CHAIN + 1), row(0, 0, PAGES, 0, "rwx")]
+    for number, (space, version) in sorted(spaces.items(), key=lambda pair: pair[1]):
+        spelled = "%d.%d" % (space, version) if version else "%d" % space
+        table.append("row %s 00020 1 %05x:rwx" % (spelled, number))
+    return script_of("space_each", [
+        ("processors 1", ""),
+        ('load 0 {"cuts":[],"ended":[],"records":[%s],"version":3}' % ",".join(records),
+         "taken %d" % CHAIN),
+        ("table 0", "\n".join(table)),
+        ("served 0 1.1 20000", "served 10000:rwx")])
+
+
 def full_copies() -> list[Script]:
     """Copies that are full, or nearly, and many commands."""
-    return [full_copy_told(), copy_filled(), chain_at_the_last_page(), many_commands(),
-            long_way(), pages_in_orders(4096)]
+    return [full_copy_told(), copy_filled(), cuts_alone(), space_each(), chain_at_the_last_page(),
+            many_commands(), long_way(), pages_in_orders(4096)]
 
 
 def long_threads(processors: int) -> Script:

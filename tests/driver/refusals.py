@@ -54,7 +54,7 @@ class Series(NamedTuple):
 
 def run_series(program: Program, interposer: Interposer, series: Series) -> list[tuple[str, Met]]:
     """Refuses the Nth one, N from 1 on until a run meets no refusal; tells how each run ended."""
-    script, ends = series.script, []
+    script, ends, fronts = series.script, [], []
     whole = script.outcome()
     for number in range(1, MOST_REFUSALS):
         wanted = series.wanted(number)
@@ -64,9 +64,27 @@ def run_series(program: Program, interposer: Interposer, series: Series) -> list
         holds = end is not None and (is_met or found == whole)
         name = "%s, refused %s" % (script.name, wanted)
         ends.append((end or "wrong", Met(holds, name, str(found))))
+        if end == "out of memory":
+            fronts.append(found.output)
         if not is_met:
-            return ends
+            return ends + [("told in part", keeps_replies(script, whole, fronts))]
     raise RuntimeError("%s never ends without a refusal" % script.name)
+
+
+def keeps_replies(script: Script, whole: Outcome, fronts: list[bytes]) -> Met:
+    """Whether what was replied before memory ran out was written: whole lines, and some of them in
+    a run that came to its second reply."""
+    is_whole = all(front == b"" or front.endswith(b"\n") for front in fronts)
+    is_short = script.arguments[0] != "run" or replies_of(script) < 2 or not fronts
+    holds = is_whole and (is_short or max(map(len, fronts)) > 0)
+    return Met(holds, "%s, the replies before" % script.name, str(fronts[-1:]))
+
+
+def replies_of(script: Script) -> int:
+    """How many lines of a script are replied at least: those whose reply is one line or none."""
+    words = [line.split()[:1] for line in script.source.splitlines()]
+    named = [word[0] for word in words if word and not word[0].startswith(b"#")]
+    return min(len(named) - 1, script.output.count(b"\n")) if b"table" not in named else 0
 
 
 def all_series(short: bool) -> list[Series]:

@@ -72,7 +72,7 @@ def is_refusal(errors: bytes, begin: str) -> bool:
 
 def helps(program: Program) -> Iterator[Met]:
     """The help of the program and of each subcommand, and the version, which that of the library
-    and the man page have too."""
+    and the man page have too, with the kit that README.md names."""
     yield told_as(program, ["--help"], list(USAGE.values()) + list(USAGE))
     for name, usage in USAGE.items():
         begin = "Usage: %s\n" % usage
@@ -82,8 +82,9 @@ def helps(program: Program) -> Iterator[Met]:
     for arguments in (["--help"], ["help", "run"], ["run", "-h"]):
         yield told_as(program, arguments, lines)
     version = re.search("^Version: (.*)$", stored_text("mapdb.pc.in"), re.M)[1]
+    kit = re.search("`(rattle-kit-[0-9]+)`", stored_text("README.md"))[1]
     for arguments in (["--version"], ["-V"]):
-        yield told_as(program, arguments, ["l4map %s (rattle-kit-" % version])
+        yield told_as(program, arguments, ["l4map %s (%s)\n" % (version, kit)])
     is_same = '"l4map %s"' % version in stored_text("docs/l4map.1")
     yield Met(is_same, "the man page's version", "docs/l4map.1 has another version than " + version)
 

@@ -13,6 +13,8 @@ mod commands;
 #[cfg(test)]
 mod facts;
 #[cfg(test)]
+mod faults;
+#[cfg(test)]
 mod indexes;
 #[cfg(test)]
 mod joins;
