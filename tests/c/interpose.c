@@ -11,6 +11,7 @@
  *   INTERPOSE_WRITE_PIECE=N    a write to standard output takes at most N bytes
  *   INTERPOSE_WRITE_FAIL=N     the Nth write to standard output fails, and all behind it
  *   INTERPOSE_WRITE_NOTHING=N  the Nth write to standard output takes no byte, nor do later ones
+ *   INTERPOSE_INTERRUPTED=1    what fails is interrupted by a signal, in place of an I/O error
  *
  * Numbers count from 1; 0, or none, leaves things as they are. */
 #define _GNU_SOURCE
@@ -38,6 +39,7 @@ static struct {
     uint64_t allocation, thread, onward;
     uint64_t read_piece, read_fail;
     uint64_t write_piece, write_fail, write_nothing;
+    uint64_t interrupted;
 } wanted;
 
 static struct report unused;
@@ -69,6 +71,7 @@ __attribute__((constructor)) static void begin(void) {
     wanted.write_piece = number_of("INTERPOSE_WRITE_PIECE");
     wanted.write_fail = number_of("INTERPOSE_WRITE_FAIL");
     wanted.write_nothing = number_of("INTERPOSE_WRITE_NOTHING");
+    wanted.interrupted = number_of("INTERPOSE_INTERRUPTED");
     open_report();
     is_begun = 1;
 }
@@ -158,7 +161,7 @@ ssize_t read(int file, void *place, size_t size) {
     if (file != STDIN_FILENO)
         return syscall(SYS_read, file, place, size);
     if (is_refused(&report->reads, &report->failed_reads, wanted.read_fail, 0)) {
-        errno = EIO;
+        errno = wanted.interrupted ? EINTR : EIO;
         return -1;
     }
     return syscall(SYS_read, file, place, at_most(size, wanted.read_piece));
@@ -168,7 +171,7 @@ ssize_t write(int file, const void *place, size_t size) {
     if (file != STDOUT_FILENO)
         return syscall(SYS_write, file, place, size);
     if (is_refused(&report->writes, &report->failed_writes, wanted.write_fail, 1)) {
-        errno = EIO;
+        errno = wanted.interrupted ? EINTR : EIO;
         return -1;
     }
     if (wanted.write_nothing != 0 && report->writes >= wanted.write_nothing) {

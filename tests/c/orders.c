@@ -1,6 +1,6 @@
 /*
- * What comes first: of the faults of a batch, of its repeats and of what is new, and of what a flush
- * takes.
+ * What comes first: of the faults of a batch, of its repeats and of what is new, and of what a
+ * flush takes.
  */
 #include "mapdb.h"
 #include <stdio.h>
@@ -136,10 +136,13 @@ static void flush(mapdb_copy *copy, mapdb_space space, mapdb_fpage page, uint64_
     CHECK(issued.count, count);
 }
 
+/* A revocation of all rights from a record of processor 0, or from the root. */
 static void check_revocation(int line, const mapdb_operation *found, uint64_t number,
                              uint64_t address, uint32_t order)
 {
     check(line, "kind", found->kind, MAPDB_REVOCATION);
+    check(line, "rights", found->rights, MAPDB_ALL_RIGHTS);
+    check(line, "processor", found->processor, 0);
     check(line, "number", found->number, number);
     check(line, "address", found->address, address);
     check(line, "order", found->order, order);
@@ -166,7 +169,7 @@ static void flushes(void)
     mapdb_destroy(&copy);
 }
 
-/* In the first space the root comes before the records. */
+/* Of the first space: what the root's child loses comes before what the root loses itself. */
 static void root_flushes(void)
 {
     mapdb_copy copy = created(0);
@@ -199,6 +202,8 @@ static void versions(void)
         CHECK(mapdb_end(&copy, five, &issued), MAPDB_DONE);
         CHECK(mapdb_served(&copy, five, 0x20, &found), MAPDB_NOT_SERVED);
     }
+    CHECK(mapdb_free_version(&copy, 5, &version), MAPDB_DONE);
+    CHECK(version, 1000);
     CHECK(mapdb_free_version(&copy, 4, &version), MAPDB_DONE);
     CHECK(version, 0);
     mapdb_destroy(&copy);

@@ -67,24 +67,31 @@ def run_series(program: Program, interposer: Interposer, series: Series) -> list
         if end == "out of memory":
             fronts.append(found.output)
         if not is_met:
-            return ends + [("told in part", keeps_replies(script, whole, fronts))]
+            kept = keeps_replies(script, fronts)
+            return ends + ([("its replies kept", kept)] if kept else [])
     raise RuntimeError("%s never ends without a refusal" % script.name)
 
 
-def keeps_replies(script: Script, whole: Outcome, fronts: list[bytes]) -> Met:
-    """Whether what was replied before memory ran out was written: whole lines, and some of them in
-    a run that came to its second reply."""
-    is_whole = all(front == b"" or front.endswith(b"\n") for front in fronts)
-    is_short = script.arguments[0] != "run" or replies_of(script) < 2 or not fronts
-    holds = is_whole and (is_short or max(map(len, fronts)) > 0)
-    return Met(holds, "%s, the replies before" % script.name, str(fronts[-1:]))
+def keeps_replies(script: Script, fronts: list[bytes]) -> Optional[Met]:
+    """Whether what was replied before memory ran out was written. It ran out later and later, so
+    the fronts of the output are whole lines, none shorter than the one before, and there is one
+    behind each reply but the last. None of a script that may reply more than a line to a line, or
+    none."""
+    replies = one_line_replies(script)
+    if not fronts or replies is None:
+        return None
+    lengths = [len(front) for front in fronts]
+    ends = {0} | {place + 1 for place, byte in enumerate(script.output) if byte == ord("\n")}
+    holds = lengths == sorted(lengths) and set(lengths) <= ends and len(set(lengths)) >= replies
+    return Met(holds, "%s, the replies before" % script.name, str(lengths))
 
 
-def replies_of(script: Script) -> int:
-    """How many lines of a script are replied at least: those whose reply is one line or none."""
-    words = [line.split()[:1] for line in script.source.splitlines()]
-    named = [word[0] for word in words if word and not word[0].startswith(b"#")]
-    return min(len(named) - 1, script.output.count(b"\n")) if b"table" not in named else 0
+def one_line_replies(script: Script) -> Optional[int]:
+    """How many replies a script has, where each line but the first is replied one line."""
+    lines = [line.split()[:1] for line in script.source.splitlines()]
+    asked = [words[0] for words in lines if words and not words[0].startswith(b"#")][1:]
+    count = script.output.count(b"\n")
+    return count if script.arguments == ["run"] and len(asked) == count else None
 
 
 def all_series(short: bool) -> list[Series]:

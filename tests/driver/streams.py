@@ -23,7 +23,9 @@ PIECES = [
 FAILURES = [
     ("read_fail", {}),
     ("read_fail", {"read_piece": 1}),
+    ("read_fail", {"read_piece": 1, "interrupted": 1}),
     ("write_fail", {}),
+    ("write_fail", {"interrupted": 1}),
     ("write_fail", {"write_piece": 1}),
     ("write_nothing", {}),
     ("write_nothing", {"write_piece": 1}),

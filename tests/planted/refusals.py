@@ -4,7 +4,7 @@ from driver.program import NO_MEMORY, Outcome
 from driver.refusals import Series, refuse_all, run_refusals
 from driver.tally import Tally
 from planted.changed import Asked, Bare, Change, Changed, longer, where
-from planted.faults import ONE_END, ONE_THREAD, Fault, Scene
+from planted.faults import ONE_END, ONE_THREAD, TWO_ENDS, Fault, Scene
 
 
 def is_refused(asked: Asked, found: Outcome) -> bool:
@@ -20,6 +20,7 @@ def is_run_fault(asked: Asked, found: Outcome) -> bool:
 
 
 ALLOCATION = Series(ONE_END, "allocation", False)
+REPLIES = Series(TWO_ENDS, "allocation", False)
 IN_THREADS = Series(ONE_THREAD, "allocation", False)
 THREAD = Series(ONE_THREAD, "thread", False)
 
@@ -39,6 +40,10 @@ CHANGES = [
      ALLOCATION, where(is_refused, status=None)),
     ("an output that is no front of the whole", "one_end, refused .*status=4, .*no more",
      ALLOCATION, longer(is_refused)),
+    ("replies that are lost where memory runs out", "two_ends, the replies before",
+     REPLIES, where(is_refused, output=b"")),
+    ("a reply that is cut where memory runs out", "two_ends, the replies before",
+     REPLIES, where(is_refused, output=b"e")),
     ("a whole run that is another", "one_end, refused .*status=0, .*no more",
      ALLOCATION, longer(is_whole)),
     ("a fault of threads without threads", "one_end, refused .*run fault thread",
@@ -58,7 +63,7 @@ CHANGES = [
 
 def refusals_faults() -> list[Fault]:
     return [
-        as_it_is(series) for series in (ALLOCATION, IN_THREADS, THREAD)
+        as_it_is(series) for series in (ALLOCATION, REPLIES, IN_THREADS, THREAD)
     ] + [by_change(*row) for row in CHANGES] + [
         Fault("refusals", "a library that is not there", "counting: .*no allocation", without),
     ]

@@ -19,6 +19,10 @@ def write_failed(asked: Asked, found: Outcome) -> bool:
     return found.status == 3 and asked.wants("write_fail")
 
 
+def was_interrupted(asked: Asked, found: Outcome) -> bool:
+    return found.status == 3 and asked.wants("interrupted")
+
+
 def took_nothing(asked: Asked, found: Outcome) -> bool:
     return found.status == 3 and asked.wants("write_nothing")
 
@@ -68,6 +72,8 @@ CHANGES = [
      where(write_failed, errors=READ_FAILED)),
     ("a write that fails, and no front of the whole", "'write_fail': 1}: .*no more",
      longer(write_failed)),
+    ("a call that is interrupted, and made again", "'interrupted': 1}: Outcome.status=0",
+     where(was_interrupted, status=0, errors=b"")),
     ("a stream that takes nothing is not told", "'write_nothing': 1}: Outcome.status=0",
      where(took_nothing, status=0, errors=b"")),
     ("a stream that takes nothing, and an end by a signal", "'write_nothing': 1}: .*status=-6",
