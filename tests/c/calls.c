@@ -2,49 +2,15 @@
  * Each call once as it should go, and at each status; then with each request for memory refused in
  * turn.
  */
+#include "checks.h"
 #include "counting_heap.h"
-#include "mapdb.h"
-#include <stdio.h>
 #include <string.h>
-
-static int passed, failed;
-
-static void check(int line, const char *what, unsigned long long is, unsigned long long wanted)
-{
-    if (is == wanted) {
-        passed++;
-        return;
-    }
-    failed++;
-    printf("line %d: %s is %llu, not %llu\n", line, what, is, wanted);
-}
-
-#define CHECK(what, wanted)                                                                        \
-    check(__LINE__, #what, (unsigned long long)(what), (unsigned long long)(wanted))
 
 static const mapdb_space root = {0, 0}, one = {1, 0}, two = {2, 0}, far_space = {65536, 0};
 
 /* 10000/14:rw- into space 1, at 8000 of the window 40000/16, by value and by words. */
 static const mapdb_fpage page = {0x10000, 14, MAPDB_READ | MAPDB_WRITE}, window = {0x40000, 16, 99};
 static const uint64_t first_word = 0x8008, second_word = 0x100e6, window_word = 0x40100;
-
-static mapdb_fpage fpage(uint64_t address, uint32_t order, uint32_t rights)
-{
-    mapdb_fpage made = {0, 0, 0};
-
-    made.address = address;
-    made.order = order;
-    made.rights = rights;
-    return made;
-}
-
-static mapdb_copy created(uint32_t processor)
-{
-    mapdb_copy copy = MAPDB_EMPTY;
-
-    CHECK(mapdb_create(&copy, processor), MAPDB_DONE);
-    return copy;
-}
 
 static uint32_t map(mapdb_copy *copy, mapdb_space sender, mapdb_fpage given, mapdb_space receiver,
                     mapdb_issued *issued)

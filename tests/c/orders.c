@@ -2,49 +2,16 @@
  * What comes first: of the faults of a batch, of its repeats and of what is new, and of what a
  * flush takes.
  */
-#include "mapdb.h"
-#include <stdio.h>
+#include "checks.h"
 #include <string.h>
 
-static int passed, failed;
-
-static void check(int line, const char *what, unsigned long long is, unsigned long long wanted)
-{
-    if (is == wanted) {
-        passed++;
-        return;
-    }
-    failed++;
-    printf("line %d: %s is %llu, not %llu\n", line, what, is, wanted);
-}
-
-#define CHECK(what, wanted)                                                                        \
-    check(__LINE__, #what, (unsigned long long)(what), (unsigned long long)(wanted))
-
 static const mapdb_space root = {0, 0}, one = {1, 0}, two = {2, 0};
-
-static mapdb_fpage fpage(uint64_t address, uint32_t order)
-{
-    mapdb_fpage made = {0, 0, 0};
-
-    made.address = address;
-    made.order = order;
-    made.rights = MAPDB_ALL_RIGHTS;
-    return made;
-}
-
-static mapdb_copy created(uint32_t processor)
-{
-    mapdb_copy copy = MAPDB_EMPTY;
-
-    CHECK(mapdb_create(&copy, processor), MAPDB_DONE);
-    return copy;
-}
 
 static void map(mapdb_copy *copy, mapdb_space sender, uint64_t source, mapdb_space receiver,
                 uint64_t target, uint32_t order, uint64_t count)
 {
-    mapdb_fpage given = fpage(source, order), window = fpage(target, order);
+    mapdb_fpage given = fpage(source, order, MAPDB_ALL_RIGHTS);
+    mapdb_fpage window = fpage(target, order, MAPDB_ALL_RIGHTS);
     mapdb_issued issued;
 
     CHECK(mapdb_map(copy, sender, 0, &given, receiver, &window, &issued), MAPDB_DONE);
@@ -158,14 +125,14 @@ static void flushes(void)
     map(&copy, root, 0x10000, one, 0x40000, 13, 1);
     map(&copy, root, 0x30000, one, 0x42000, 13, 1);
     map(&copy, one, 0x40000, two, 0x80000, 14, 2);
-    flush(&copy, one, fpage(0, 32), 4);
+    flush(&copy, one, fpage(0, 32, MAPDB_ALL_RIGHTS), 4);
     CHECK(mapdb_give_own(&copy, 4, 8, lost, 4, &count), MAPDB_DONE);
     check_revocation(__LINE__, &lost[0], 3, 0x80000, 13);
     check_revocation(__LINE__, &lost[1], 1, 0x40000, 13);
     check_revocation(__LINE__, &lost[2], 4, 0x82000, 13);
     check_revocation(__LINE__, &lost[3], 2, 0x42000, 13);
-    flush(&copy, two, fpage(0, 32), 0);
-    flush(&copy, one, fpage(0, 32), 0);
+    flush(&copy, two, fpage(0, 32, MAPDB_ALL_RIGHTS), 0);
+    flush(&copy, one, fpage(0, 32, MAPDB_ALL_RIGHTS), 0);
     mapdb_destroy(&copy);
 }
 
@@ -177,7 +144,7 @@ static void root_flushes(void)
     uint64_t count;
 
     map(&copy, root, 0x10000, one, 0x40000, 13, 1);
-    flush(&copy, root, fpage(0x10000, 12), 2);
+    flush(&copy, root, fpage(0x10000, 12, MAPDB_ALL_RIGHTS), 2);
     CHECK(mapdb_give_own(&copy, 1, 3, lost, 2, &count), MAPDB_DONE);
     check_revocation(__LINE__, &lost[0], 1, 0x40000, 12);
     check_revocation(__LINE__, &lost[1], 0, 0x10000, 12);
