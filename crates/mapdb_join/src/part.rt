@@ -1,5 +1,6 @@
 //! Values that take one part at a time.
-ghost use Rattle.std.specs.Prelude.{◌≡◌, [], ◌∷◌, false, OnOk, OnErr, IfOk, IfErr, IsOk, IsOkAnd};
+ghost use Rattle.std.specs.Prelude.{◌≡◌, [], ◌∷◌, false, true, OnOk, OnErr, IfOk, IfErr, IsOk, IsOkAnd};
+ghost use Rattle.std.specs.Prelude.{None};
 ghost use Rattle.std.specs.Map.{lookup};
 ghost use Rattle.std.specs.BTreeMap.{is_at};
 ghost use Rattle.mapdb_join.specs.Atoms.{IsSame, IsUnion, Clashes};
@@ -109,6 +110,42 @@ impl<K: Ord + Exact> MergePart for Grow<K> {
     }
 }
 
+// Whether the key lies above all keys that there are. In a map that grows at its end this saves the
+// search for what is not there.
+fn is_behind<K: Ord + Exact, V>(map: &Entries<K, V>, key: &K) -> bool
+    ensures { result ≡ true → lookup (is_at (K.cmp key.now)) (entries_of map.now) ≡ None }
+{
+    match map.last() {
+        Some(last) => last.cmp(key).is_lt(),
+        None => false,
+    }
+}
+
+// Makes the value of the part under a key that is absent.
+fn put_part<K: Ord + Exact, V: MergePart>(
+    map: &mut Entries<K, V>,
+    alloc: Global,
+    key: K,
+    part: V::Part,
+) -> Result<(), MergeFault<()>>
+    requires { lookup (is_at (K.cmp key)) (entries_of map.old) ≡ None }
+    ensures ok { OnOk result (IsUnion (has_under K.cmp V.has)
+        (entries_of map.old) ((key, V.alone part) ∷ []) (entries_of map.new)
+        × (Clashes (has_under K.cmp V.has) (excludes_under V.excludes)
+        (entries_of map.old) ((key, V.alone part) ∷ []) → ⊥)) }
+    ensures err { IfErr result (FaultKeeps (has_under K.cmp V.has) (excludes_under V.excludes)
+        (entries_of map.old) ((key, V.alone part) ∷ []) (entries_of map.new)) }
+    ensures keys { OnOk result (IsUnion (holds_key K.cmp) (entries_of map.old)
+        ((key, V.alone part) ∷ []) (entries_of map.new)) }
+    ensures others { (q : K) → is_at (K.cmp key) q ≡ false
+        → lookup (is_at (K.cmp q)) (entries_of map.new)
+        ≡ lookup (is_at (K.cmp q)) (entries_of map.old) }
+{
+    let value = V::of_part(alloc, part)?;
+    map.insert(alloc, key, value)?;
+    Ok(())
+}
+
 // Merges the part into the value under the key, and makes that value where it is absent.
 fn merge_at<K: Ord + Exact, V: MergePart>(
     map: &mut Entries<K, V>,
@@ -128,12 +165,13 @@ fn merge_at<K: Ord + Exact, V: MergePart>(
         → lookup (is_at (K.cmp q)) (entries_of map.new)
         ≡ lookup (is_at (K.cmp q)) (entries_of map.old) }
 {
+    if is_behind(map, &key) {
+        return put_part(map, alloc, key, part);
+    }
     if let Some(mine) = map.get_mut(&key) {
         return mine.merge_part(part);
     }
-    let value = V::of_part(alloc, part)?;
-    map.insert(alloc, key, value)?;
-    Ok(())
+    put_part(map, alloc, key, part)
 }
 
 /// The part is a key with a part of its value.

@@ -33,21 +33,3 @@ returns-in-Some-clause-keys g c =
     let at = held_from_mut {r = c.get_mut.result} {v = c.in-Some.mine} c.in-Some.is c.get_mut.ensures.value in
     let u = (c.get_mut.follows.holds c.merge_part.new.self).changed (ap is_some at) in
     on_ok_weaker c.merge_part.result (λ h. keys_at exact laws.Ord.total g.V.Merge.has (entries_of c.args.map.now) _ c.args.key (g.V.MergePart.alone c.args.part) c.merge_part.new.self u) c.merge_part.ensures.ok
-
-pub returns-clause-ok : goal.returns-clause-ok
-returns-clause-ok g c =
-    let laws = g.met.K in
-    let exact = exact_cmp g.K.Ord.cmp laws.Ord.matches_eq laws.Exact.exact in
-    let at = absent_from_mut {r = c.get_mut.result} c.in_default.is c.get_mut.ensures.value in
-    let old = entries_of c.args.map.now in
-    let part = g.V.MergePart.alone c.args.part in
-    let u = rw c.get_mut.follows.holds-at-none at c.in_ok-insert.ensures.alone in (
-      union_new exact laws.Ord.total g.V.Merge.has old _ c.args.key part _ at u c.in_ok-value.ensures,
-      absent_apart g.V.Merge.has g.V.Merge.excludes exact laws.Ord.total old c.args.key part at,
-    )
-
-pub returns-clause-keys : goal.returns-clause-keys
-returns-clause-keys g c =
-    let laws = g.met.K in
-    let exact = exact_cmp g.K.Ord.cmp laws.Ord.matches_eq laws.Exact.exact in
-    keys_at exact laws.Ord.total g.V.Merge.has (entries_of c.args.map.now) _ c.args.key (g.V.MergePart.alone c.args.part) _ (rw c.get_mut.follows.holds-at-none at c.in_ok-insert.ensures.alone)
