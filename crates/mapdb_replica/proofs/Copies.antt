@@ -6,4 +6,5 @@ pub mod FoundAnswers
 pub mod Keeping
 pub mod KeptIndexes
 pub mod OpForms
+pub mod PlacedOps
 pub mod SameOps

@@ -1,9 +1,10 @@
 pub mod HolderWalks
 pub mod LiveHolders
-pub mod LonePairs
 pub mod PairLaws
 pub mod PairLists
+pub mod PairSets
 pub mod RunningPages
+pub mod ServedAlone
 pub mod ServedLaws
 pub mod ServedPages
 pub mod SkippedPages

@@ -43,14 +43,13 @@ impl Replica {
         shown_until(&self.facts, &self.index, space, page)
     }
 
-    /// One past the last page up to which what a page of a space is served from goes on from this
-    /// page: none at all of them, or frames that rise by one with each page, with equal rights. It
-    /// takes no memory.
-    pub fn run_end(&self, space: Space, page: u64) -> u64
-        requires { page < PAGE_LIMIT }
+    /// As [`Replica::run_end`], of a page of which it is known what it is served from. It takes no
+    /// memory.
+    pub fn run_end_of(&self, space: Space, page: u64, first: Option<(u64, Rights)>) -> u64
+        requires page { page < PAGE_LIMIT }
+        requires first { first ≡ served self.now.ops space page }
         ensures { IsRunEnd (served self.now.ops space) page result }
     {
-        let first = self.served(space, page);
         let mut end = self.steady_end(space, page);
         'pages: while end < PAGE_LIMIT {
             if !continues(first, end - page, self.served(space, end)) {
@@ -59,5 +58,15 @@ impl Replica {
             end = self.steady_end(space, end);
         }
         end
+    }
+
+    /// One past the last page up to which what a page of a space is served from goes on from this
+    /// page: none at all of them, or frames that rise by one with each page, with equal rights. It
+    /// takes no memory.
+    pub fn run_end(&self, space: Space, page: u64) -> u64
+        requires { page < PAGE_LIMIT }
+        ensures { IsRunEnd (served self.now.ops space) page result }
+    {
+        self.run_end_of(space, page, self.served(space, page))
     }
 }

@@ -1,6 +1,10 @@
+pub mod FirstRecords
+pub mod FirstWalks
+pub mod FrameRights
 pub mod LiveLists
 pub mod LiveOrders
 pub mod LiveRecords
-pub mod LonePairs
-pub mod LoneRecords
+pub mod PagePairs
+pub mod PassedPlaces
+pub mod ServedPages
 pub mod ShownNames

@@ -7,5 +7,6 @@ pub mod Narrow
 pub mod OneRelation
 pub mod Settled
 pub mod SourcePages
+pub mod Stepped
 pub mod Steps
 pub mod Walk

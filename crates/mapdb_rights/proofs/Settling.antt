@@ -1,6 +1,7 @@
 pub mod Built
 pub mod Ended
 pub mod Followed
+pub mod HeldRecords
 pub mod Pendings
 pub mod Settlement
 pub mod Stirring

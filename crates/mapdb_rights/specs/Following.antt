@@ -4,22 +4,25 @@ use Rattle.mapdb_facts.specs.Looking.{Holds}
 use Rattle.mapdb_facts.specs.Merging.{IsNamed}
 use Rattle.mapdb_facts.specs.State.{State, join, said}
 use Rattle.mapdb_facts.specs.WellFormed.{IsFormedRecord}
+use Rattle.mapdb_facts.specs.declared.names.RecordId.{RecordId}
 use Rattle.mapdb_facts.specs.declared.operations.Op.{Op}
 use Rattle.mapdb_facts.specs.declared.operations.Record.{Record}
 use Rattle.mapdb_rights.specs.declared.index.changes.AllChanges.{AllChanges}
 use Rattle.mapdb_rights.specs.Caching.{AreRights}
 use Rattle.mapdb_rights.specs.Changes.{AreFrames, cached_in}
-use Rattle.mapdb_rights.specs.Listing.{AllAligned, AreOfHeld, HasPlaces}
+use Rattle.mapdb_rights.specs.Listing.{AllAligned, AreOfHeld, HasPlaces, held_record}
 use Rattle.mapdb_rights.specs.declared.index.places.Places.{Places}
 
 -- each record that is held is listed and no other, and what is listed is aligned; each record that
--- is held stands under its own name and is well-formed
+-- is held stands under its own name and is well-formed; under each name the same is kept beside
+-- the places
 pub record AreListed (S : State) (listed : Places) : Type 0 where
   pub named : IsNamed S
   pub formed : (r : Record) → Holds S r → IsFormedRecord r
   pub places : HasPlaces S listed
   pub aligned : AllAligned listed
   pub held : AreOfHeld S listed
+  pub by_name : (id : RecordId) → held_record listed id ≡ S.record_at id
 
 -- What is kept stands for the state: the cached rights are those of each record at each page, where
 -- there are some the frame is the record's, and the records that are held are listed.

@@ -1,6 +1,6 @@
--- Whose places are listed, and which of them meet pages.
+-- Whose places are listed, which of them meet pages, and which records are held under their names.
 use Rattle.std.specs.Prelude.{◌≡◌, ℕ, Bool, true, false, List, [], ◌∷◌, ◌++◌, length, map, Option}
-use Rattle.std.specs.Prelude.{Some, None, count_by, ◌⊎◌}
+use Rattle.std.specs.Prelude.{Some, None, count_by, ◌⊎◌, if◌then◌else◌}
 use Rattle.std.specs.BTreeMap.Range.{IsFromStart, IsLeBy}
 use Rattle.std.specs.Map.{lookup}
 use Rattle.std.specs.Ordering.{is_lt, nat_cmp, ordering_then}
@@ -10,17 +10,17 @@ use Rattle.std.specs.declared.ops.Bound.{Bound}
 use Rattle.mapdb_fpage.specs.Place.{IsPlace}
 use Rattle.mapdb_facts.specs.Kept.{id_cmp, space_cmp}
 use Rattle.mapdb_facts.specs.Looking.{Holds}
-use Rattle.mapdb_facts.specs.Names.{same_id, same_space}
+use Rattle.mapdb_facts.specs.Names.{same_id}
 use Rattle.mapdb_facts.specs.State.{State}
+use Rattle.mapdb_facts.specs.declared.names.RecordId.{RecordId}
 use Rattle.mapdb_facts.specs.declared.operations.Record as operations
-use Rattle.mapdb_rights.specs.declared.index.own_places.FoundPlace.{FoundPlace}
 use Rattle.mapdb_rights.specs.declared.index.own_places.OwnPlace.{OwnPlace}
 use Rattle.mapdb_rights.specs.declared.index.own_places.OwnPlaces.{OwnPlaces}
-use Rattle.mapdb_rights.specs.declared.index.places.FoundEntry.{FoundEntry}
 use Rattle.mapdb_rights.specs.declared.index.places.Listed.{Listed}
 use Rattle.mapdb_rights.specs.declared.index.places.Owner.{Owner}
 use Rattle.mapdb_rights.specs.declared.index.places.Owner.TheVariants.{Record, Space}
 use Rattle.mapdb_rights.specs.declared.index.places.Places.{Places}
+pub use Rattle.mapdb_rights.specs.Owners.{same_owner}
 use Rattle.mapdb_rights.specs.OwnPlaces.{IsAlignedPlace, own_list, own_meets, own_pages, stands}
 
 -- records come before spaces
@@ -35,12 +35,6 @@ abbrev pub listed_cmp : Listed → Listed → Ordering
 listed_cmp a b =
     ordering_then (owner_cmp a.owner b.owner) (ordering_then (nat_cmp a.order b.order)
     (ordering_then (nat_cmp a.first b.first) (id_cmp a.id b.id)))
-
-abbrev pub same_owner : Owner → Owner → Bool
-same_owner (Record a) (Record b) = same_id a b
-same_owner (Record a) (Space b) = false
-same_owner (Space a) (Record b) = false
-same_owner (Space a) (Space b) = same_space a b
 
 -- the place alone, whoever owns it
 abbrev pub own_place : Listed → OwnPlace
@@ -63,6 +57,10 @@ places_among owners owner = places_in (lookup (same_owner owner) owners)
 abbrev pub is_among : List (Owner × OwnPlaces) → Listed → Bool
 is_among owners e = stands (places_among owners e.owner) (own_place e)
 
+-- the places of an owner among all that are listed
+abbrev pub owner_places : Places → Owner → List OwnPlace
+owner_places places owner = places_among places.own.entries owner
+
 -- the entry is listed
 abbrev pub is_listed : Places → Listed → Bool
 is_listed places e = is_among places.own.entries e
@@ -79,6 +77,14 @@ all_listed places = entries_among places.own.entries
 -- how much is listed
 abbrev pub listed_len : Places → ℕ
 listed_len places = length (all_listed places)
+
+-- the record that is held under a name, where there is one
+abbrev pub held_record : Places → RecordId → Option operations.Record
+held_record places id = lookup (same_id id) places.held.entries
+
+-- the same where one record more is held, under its own name
+abbrev pub held_with : Places → operations.Record → RecordId → Option operations.Record
+held_with places r id = if same_id r.id id then Some r else held_record places id
 
 -- a record's place stands under its space
 abbrev pub place_of : operations.Record → Listed
@@ -148,19 +154,6 @@ abbrev pub IsNextMeeting : Places → Owner → ℕ → ℕ → Option Listed �
 IsNextMeeting set owner first end after None = (k : Listed) → is_listed set k ≡ true
     → k.owner ≡ owner → is_above after k ≡ true → meets k first end ≡ false
 IsNextMeeting set owner first end after (Some e) = IsLeastMeeting set owner first end after e
-
--- the entry that was found
-abbrev pub found_entry : FoundEntry → Listed
-found_entry found = found.entry
-
--- where it is said to be the last, none of the owner behind it meets the pages
-abbrev pub IsLastEntryWhereSaid : Places → Owner → ℕ → ℕ → FoundEntry → Type 0
-IsLastEntryWhereSaid set owner first end found = found.last ≡ true
-    → IsNextMeeting set owner first end (Some found.entry) None
-
--- a place that was found as the owner's
-abbrev pub found_for : Owner → FoundPlace → FoundEntry
-found_for owner found = record { entry = listed_for owner found.place; last = found.last }
 
 -- how many entries stand after another, or how many there are
 abbrev pub left_above : Places → Option Listed → ℕ

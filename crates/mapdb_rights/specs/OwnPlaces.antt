@@ -1,21 +1,24 @@
 -- The places of one owner, how they are ordered, and which of them meet pages.
 use Rattle.std.specs.Prelude.{◌≡◌, ℕ, Bool, true, false, ◌&&◌, ◌+◌, ◌-◌, ◌*◌, ◌%◌, ◌^◌, ◌≤◌, ◌<◌}
-use Rattle.std.specs.Prelude.{nat_lt, min, max, List, Option, Some, None, if◌then◌else◌}
+use Rattle.std.specs.Prelude.{nat_lt, min, max, List, Option, Some, None, if◌then◌else◌, ◌⊎◌, []}
+use Rattle.std.specs.Prelude.{drop, filter, length}
 use Rattle.std.specs.BTreeMap.Range.{IsLeBy}
 use Rattle.std.specs.Ordering.{is_lt}
 use Rattle.mapdb_fpage.specs.Bounds.{least_order, page_limit, top_order}
 use Rattle.mapdb_facts.specs.Names.{root}
 pub use Rattle.mapdb_rights.specs.Standing.{place_cmp, stands}
 use Rattle.mapdb_rights.specs.declared.index.own_places.FoundPlace.{FoundPlace}
+use Rattle.mapdb_rights.specs.declared.index.own_places.NextPlace.{NextPlace}
 use Rattle.mapdb_rights.specs.declared.index.own_places.OwnPlace.{OwnPlace}
 use Rattle.mapdb_rights.specs.declared.index.own_places.OwnPlaces.{OwnPlaces}
 use Rattle.mapdb_rights.specs.declared.index.own_places.OwnPlaces.TheVariants.{Few, Many}
+use Rattle.mapdb_rights.specs.declared.index.own_places.Sweep.{Sweep}
 use Rattle.mapdb_rights.specs.declared.index.place_sets.Spot.{Spot}
 
 -- the places of the owner, each once or more
 abbrev pub own_list : OwnPlaces → List OwnPlace
 own_list (Few list) = list.items
-own_list (Many many) = many.places.keys
+own_list (Many many) = many.places
 
 -- the least of the places that pass a test
 pub record IsLeastPlace (test : OwnPlace → Bool) (places : List OwnPlace) (p : OwnPlace)
@@ -137,3 +140,38 @@ orders_left first p = 1 + 2 * (top_order + 1 - p.order) + (1 - (p.first + own_pa
 abbrev pub orders_ahead : ℕ → Option OwnPlace → ℕ
 orders_ahead first None = 0
 orders_ahead first (Some p) = orders_left first p
+
+-- a sweep that has all places ahead
+abbrev pub at_start : Sweep
+at_start = record { passed = 0; after = None; over = false }
+
+-- of a few places a sweep has those ahead that were not looked at
+abbrev pub few_ahead : List OwnPlace → Sweep → List OwnPlace
+few_ahead places sweep = drop sweep.passed places
+
+-- of many those above the last that was found
+abbrev pub many_ahead : List OwnPlace → Sweep → List OwnPlace
+many_ahead places sweep = if sweep.over then [] else filter (is_beyond sweep.after) places
+
+-- the places that a sweep has ahead
+abbrev pub ahead : OwnPlaces → Sweep → List OwnPlace
+ahead (Few list) = few_ahead list.items
+ahead (Many many) = many_ahead many.places
+
+-- one of the places that meet the pages; all others that a sweep had ahead, and that meet them, are
+-- still ahead of it, and it has fewer ahead
+pub record IsSweptTo (places : List OwnPlace) (ahead_of : Sweep → List OwnPlace) (first end : ℕ)
+    (sweep : Sweep) (next : NextPlace) : Type 0 where
+  pub held : stands places next.place ≡ true
+  pub meeting : own_meets next.place first end ≡ true
+  pub rest : (k : OwnPlace) → stands (ahead_of sweep) k ≡ true → own_meets k first end ≡ true
+      → (next.place ≡ k) ⊎ (stands (ahead_of next.sweep) k ≡ true)
+  pub fewer : length (ahead_of next.sweep) < length (ahead_of sweep)
+
+-- such a place, or none of those ahead meets the pages
+abbrev pub IsSweptOn : List OwnPlace → (Sweep → List OwnPlace) → ℕ → ℕ → Sweep → Option NextPlace
+    → Type 0
+IsSweptOn places ahead_of first end sweep None = (k : OwnPlace)
+    → stands (ahead_of sweep) k ≡ true → own_meets k first end ≡ false
+IsSweptOn places ahead_of first end sweep (Some next) =
+    IsSweptTo places ahead_of first end sweep next

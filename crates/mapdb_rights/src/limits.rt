@@ -1,10 +1,13 @@
 //! How long the lists of an index may be, and how many orders it has bits for.
 
 /// How many changes are looked through one by one; more stand in a map.
-pub(crate) const FEW_CHANGES: usize = 16;
+pub(crate) const FEW_CHANGES: usize = 32;
 
-/// How many places are looked through one by one; more stand in a set.
-pub(crate) const FEW_PLACES: usize = 16;
+/// How many places are looked through one by one; more stand in their order.
+pub(crate) const FEW_PLACES: usize = 24;
+
+/// How many places stand in a list that is halved; more stand in a tree.
+pub(crate) const SOME_PLACES: usize = 1024;
 
 /// For each order below this there is a bit.
 pub(crate) const ORDER_LIMIT: u8 = 64;

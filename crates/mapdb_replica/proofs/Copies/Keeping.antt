@@ -23,8 +23,9 @@ use Rattle.mapdb_facts.proofs.States.Formed.{all_formed-put}
 use Rattle.mapdb_rights.specs.Index.{KeepsUp}
 use Rattle.mapdb_rights.specs.declared.index.rights_index.RightsIndex.{RightsIndex}
 use Rattle.mapdb_replica.specs.Forms.{HavePlaces}
-use Rattle.mapdb_replica.specs.Keeping.{IsKeptCopy}
+use Rattle.mapdb_replica.specs.Keeping.{ArePlaces, IsKeptCopy}
 use Rattle.mapdb_replica.specs.Replica.{most_operations}
+use Rattle.mapdb_replica.proofs.Copies.PlacedOps.{places-grown}
 
 -- what holds on success holds where there was no error
 pub on_ok : {A E : Type 0} → (r : Result A E) (P : Type 0) → is_err r ≡ false → OnOk r P → P
@@ -125,11 +126,11 @@ sound-put ops op sound fits r s in_r in_s same =
     by_parts (inr a) (inl b) = sym (held_alike s r b (last op a) (sym same))
     by_parts (inr a) (inr b) = both op (last op a) (last_s op b)
 
-pub kept-put : (processor : ℕ) (ops own own' : List Op) (facts : Facts) (index : RightsIndex) (op : Op) (facts' : Facts) (index' : RightsIndex)
+pub kept-put : (processor : ℕ) (ops : List Op) (own own' : List ℕ) (facts : Facts) (index : RightsIndex) (op : Op) (facts' : Facts) (index' : RightsIndex)
     → IsKeptCopy processor ops own facts index → added (state_of ops) op ≡ Ok true → length ops < most_operations
-    → length own' ≤ length ops + 1 → state_of_facts facts' ≡ join (state_of_facts facts) (said op) → HavePlaces (op ∷ []) → KeepsUp index' (state_of_facts facts')
+    → ArePlaces (ops ++ op ∷ []) own' → length own' ≤ length ops + 1 → state_of_facts facts' ≡ join (state_of_facts facts) (said op) → HavePlaces (op ∷ []) → KeepsUp index' (state_of_facts facts')
     → IsKeptCopy processor (ops ++ op ∷ []) own' facts' index'
-kept-put processor ops own own' facts index op facts' index' kept fits room few is place up =
+kept-put processor ops own own' facts index op facts' index' kept fits room within few is place up =
     let more : length (ops ++ op ∷ []) ≡ length ops + 1 = length-append ops (op ∷ []) in
     record {
       issuer = kept.issuer;
@@ -137,20 +138,21 @@ kept-put processor ops own own' facts index op facts' index' kept fits room few 
       places = λ r h. elim (atom_append ops (op ∷ []) (Rec r) h) [ inl before ↦ kept.places r before | inr last ↦ place r last ];
       sound = sound-put ops op kept.sound fits;
       few = omega arith;
+      places_own = within;
       few_own = omega arith;
       said = is ∙ ap (λ (S : State). join S (said op)) kept.said ∙ sym (state_of-put ops op);
       indexed = up;
     }
 
 -- where nothing was added, what is kept is kept
-pub kept-either : {E : Type 0} → (r : Result (Unit {0}) E) (processor : ℕ) (ops ops' own : List Op) (facts facts' : Facts) (index index' : RightsIndex) (op : Op)
+pub kept-either : {E : Type 0} → (r : Result (Unit {0}) E) (processor : ℕ) (ops ops' : List Op) (own : List ℕ) (facts facts' : Facts) (index index' : RightsIndex) (op : Op)
     → IsKeptCopy processor ops own facts index → added (state_of ops) op ≡ Ok true → length ops < most_operations
     → OnOk r (ops' ≡ ops ++ op ∷ []) → OnOk r (state_of_facts facts' ≡ join (state_of_facts facts) (said op)) → OnErr r (ops' ≡ ops) → OnErr r (facts' ≡ facts) → HavePlaces (op ∷ [])
     → KeepsUp index' (state_of_facts facts') → IsKeptCopy processor ops' own facts' index'
 kept-either (Ok u) processor ops ops' own facts facts' index index' op kept fits room listed is same same_facts place up =
     let few = kept.few_own in
     subst (λ (xs : List Op). IsKeptCopy processor xs own facts' index') (sym listed)
-    (kept-put processor ops own own facts index op facts' index' kept fits room (omega arith) is place up)
+    (kept-put processor ops own own facts index op facts' index' kept fits room (places-grown ops op own kept.places_own) (omega arith) is place up)
 kept-either (Err e) processor ops ops' own facts facts' index index' op kept fits room listed is same same_facts place up =
     subst (λ (xs : List Op). IsKeptCopy processor xs own facts' index') (sym same)
     (subst (λ (f : Facts). KeepsUp index' (state_of_facts f) → IsKeptCopy processor ops own f index') (sym same_facts)
@@ -160,13 +162,14 @@ kept-either (Err e) processor ops ops' own facts facts' index index' op kept fit
       places = kept.places;
       sound = kept.sound;
       few = kept.few;
+      places_own = kept.places_own;
       few_own = kept.few_own;
       said = kept.said;
       indexed = still;
     }) up)
 
 -- the facts' records are those of the operations
-pub kept-records : (processor : ℕ) (ops own : List Op) (facts : Facts) (index : RightsIndex) → IsKeptCopy processor ops own facts index → records_of_facts facts ≡ records_of ops
+pub kept-records : (processor : ℕ) (ops : List Op) (own : List ℕ) (facts : Facts) (index : RightsIndex) → IsKeptCopy processor ops own facts index → records_of_facts facts ≡ records_of ops
 kept-records processor ops own facts index kept = records_of-facts facts ops kept.said
 
 length-placed : (r : Record) (xs : List Record) → length (placed r xs) ≤ length xs + 1

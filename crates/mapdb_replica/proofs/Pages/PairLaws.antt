@@ -64,7 +64,7 @@ listed_by pair other rest frame right false true same later (inr h) = inr (inr h
 listed_by pair other rest frame right false false same later (inl h) = inr (inl h)
 listed_by pair other rest frame right false false same later (inr h) = elim (later h) [ inl k ↦ inl k | inr k ↦ inr (inr k) ]
 
-listed_to : (pair : Pair) (pairs : List Pair) (frame : ℕ) (right : Right) → ListsRight (with_pair pair pairs) frame right → HasIn pair frame right ⊎ ListsRight pairs frame right
+pub listed_to : (pair : Pair) (pairs : List Pair) (frame : ℕ) (right : Right) → ListsRight (with_pair pair pairs) frame right → HasIn pair frame right ⊎ ListsRight pairs frame right
 listed_to pair [] frame right h = h
 listed_to pair (other ∷ rest) frame right h = listed_by pair other rest frame right (nat_lt pair.0 other.0) (pair.0 == other.0) refl (listed_to pair rest frame right) h
 
@@ -80,7 +80,7 @@ lists_by pair other rest frame right false false same later (inl h) = inr (later
 lists_by pair other rest frame right false false same later (inr (inl h)) = inl h
 lists_by pair other rest frame right false false same later (inr (inr h)) = inr (later (inr h))
 
-lists_from : (pair : Pair) (pairs : List Pair) (frame : ℕ) (right : Right) → HasIn pair frame right ⊎ ListsRight pairs frame right → ListsRight (with_pair pair pairs) frame right
+pub lists_from : (pair : Pair) (pairs : List Pair) (frame : ℕ) (right : Right) → HasIn pair frame right ⊎ ListsRight pairs frame right → ListsRight (with_pair pair pairs) frame right
 lists_from pair [] frame right h = h
 lists_from pair (other ∷ rest) frame right h = lists_by pair other rest frame right (nat_lt pair.0 other.0) (pair.0 == other.0) refl (lists_from pair rest frame right) h
 
@@ -110,7 +110,7 @@ or_empty a b h = step a.read a.write a.execute b.read b.write b.execute h
     step false false true false false z h = refl
     step false false false x y z h = absurd (false≢true (sym h))
 
-rising-with : (pair : Pair) (pairs : List Pair) → is_empty pair.1 ≡ false → IsRising pairs → IsRising (with_pair pair pairs)
+pub rising-with : (pair : Pair) (pairs : List Pair) → is_empty pair.1 ≡ false → IsRising pairs → IsRising (with_pair pair pairs)
 rising-with pair [] some rising = (some, tt, tt)
 rising-with pair (other ∷ rest) some rising = step (nat_lt pair.0 other.0) (pair.0 == other.0) refl refl (rising-with pair rest some rising.2)
   where

@@ -3,7 +3,7 @@ use Rattle.std.proofs.Common.{◌≡◌, ℕ, zero, suc, ◌+◌, ◌<◌, ◌�
 use Rattle.std.specs.Prelude.{◌&&◌, nat_eq, nat_le, nat_lt, Option, Some, None, slice_set, if◌then◌else◌}
 use Rattle.std.proofs.lemmas.Bool.{and_from, and_parts, cases_Bool, cond-false, cond-true, eq-eqb, eqb-true, le-leb, leb-true, lt-ltb, ltb-true, true≢false}
 use Rattle.std.specs.BTreeMap.{BTreeMap}
-use Rattle.std.specs.List.{refill}
+use Rattle.std.specs.List.{refill, remove}
 use Rattle.std.proofs.Math.Seq.{take-append_seam}
 use Rattle.std.proofs.lemmas.List.{take_more}
 use Rattle.mapdb_rights.specs.declared.index.changes.Change.{Change}
@@ -102,6 +102,32 @@ apart_step list i d page inside apart h =
 pub listed_step : (list : List PageChange) (i : ℕ) (d : PageChange) (q : ℕ) → i < length list
     → listed_change (take (i + 1) list) q ≡ or_change (listed_change (take i list) q) (one_change (get_or list i d) q)
 listed_step list i d q inside = ap (λ (done : List PageChange). listed_change done q) (take_more list i d inside) ∙ listed_more (take i list) (get_or list i d) q
+
+-- the first at the page is the change there
+pub first_there : (list : List PageChange) (at page : ℕ) (d : PageChange) → at < length list → listed_change (take at list) page ≡ None → (get_or list at d).page ≡ page
+    → Some (get_or list at d).change ≡ listed_change list page
+first_there [] at page d inside none here = absurd (omega arith)
+first_there (x ∷ xs) zero page d inside none here =
+    sym (ap (λ (o : Option Change). or_change o (listed_change xs page)) (cond-true (nat_eq x.page page) (Some x.change) None (eq-eqb x.page page here)))
+first_there (x ∷ xs) (suc at) page d inside none here =
+    first_there xs at page d (omega arith) (rest_none (one_change x page) (listed_change (take at xs) page) none) here
+    ∙ ap (λ (o : Option Change). or_change o (listed_change xs page)) (sym (front_none (one_change x page) (listed_change (take at xs) page) none))
+  where
+    front_none : (a b : Option Change) → or_change a b ≡ None → a ≡ None
+    front_none None b h = refl
+    front_none (Some v) b h = h
+
+    rest_none : (a b : Option Change) → or_change a b ≡ None → b ≡ None
+    rest_none None b h = h
+    rest_none (Some v) b h = absurd (search Rattle.std.proofs.Common.rules)
+
+-- one taken out, the changes at other pages stay
+pub removed_other : (list : List PageChange) (at page : ℕ) (d : PageChange) → at < length list → (get_or list at d).page ≡ page
+    → (q : ℕ) → (page ≡ q → ⊥) → listed_change (remove list at) q ≡ listed_change list q
+removed_other [] at page d inside here q apart = absurd (omega arith)
+removed_other (x ∷ xs) zero page d inside here q apart =
+    sym (ap (λ (o : Option Change). or_change o (listed_change xs q)) (cond-false (nat_eq x.page q) (Some x.change) None (other_page x.page q (λ e. apart (sym here ∙ e)))))
+removed_other (x ∷ xs) (suc at) page d inside here q apart = ap (or_change (one_change x q)) (removed_other xs at page d (omega arith) here q apart)
 
 -- ---- one put into the list
 

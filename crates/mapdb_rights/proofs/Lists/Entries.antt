@@ -1,14 +1,19 @@
 -- How many entries come behind one, and the entries of a record.
-use Rattle.std.proofs.Common.{◌≡◌, ◌<◌, ◌≤◌, Bool, true, false, List, [], ◌∷◌, length, refl, sym, ap, ◌∙◌, arith, inl, inr}
+use Rattle.std.proofs.Common.{◌≡◌, ℕ, ◌+◌, ◌<◌, ◌≤◌, Bool, true, false, cond, List, [], ◌∷◌, length, map, refl, sym, ap, ◌∙◌, arith, inl, inr}
 use Rattle.std.specs.Prelude.{◌||◌, filter, Option, Some, None, if◌then◌else◌}
 use Rattle.std.specs.BTreeMap.{is_at}
 use Rattle.std.specs.List.{count_by, list_any}
+use Rattle.std.specs.Map.{lookup}
 use Rattle.std.specs.Ordering.{is_lt}
 use Rattle.std.proofs.lemmas.Bool.{cases_Bool, false≢true, true≢false}
 use Rattle.std.proofs.lemmas.Cmp.{tied_itself}
+use Rattle.std.proofs.lemmas.List.{length-append, length-map}
 use Rattle.std.proofs.lemmas.List.Sums.{length-filter}
+use Rattle.mapdb_rights.specs.declared.index.own_places.OwnPlaces.{OwnPlaces}
 use Rattle.mapdb_rights.specs.declared.index.places.Listed.{Listed}
-use Rattle.mapdb_rights.specs.Listing.{AllAligned, all_listed, is_above, is_listed, left_above, listed_cmp, listed_len}
+use Rattle.mapdb_rights.specs.declared.index.places.Owner.{Owner}
+use Rattle.mapdb_rights.specs.Listing.{AllAligned, all_listed, entries_among, is_above, is_listed, left_above, listed_cmp, listed_for, places_among, places_in, same_owner}
+use Rattle.mapdb_rights.specs.OwnPlaces.{own_list}
 use Rattle.mapdb_rights.proofs.Lists.ListedOrder.{exact_listed, less_from, listed_total}
 use Rattle.mapdb_rights.specs.declared.index.places.Places.{Places}
 use Rattle.mapdb_rights.proofs.Places.OwnersPlaces.{among_all}
@@ -26,7 +31,7 @@ module _ {X : Type 0} (p q : X → Bool) (narrower : (x : X) → p x ≡ true �
       by false true h rest = omega arith
       by false false h rest = omega arith
 
-  fewer : (t : X → Bool) → ((x : X) → t x ≡ true → (p x ≡ false) × (q x ≡ true)) → (xs : List X) → list_any t xs ≡ true → length (filter p xs) < length (filter q xs)
+  pub fewer : (t : X → Bool) → ((x : X) → t x ≡ true → (p x ≡ false) × (q x ≡ true)) → (xs : List X) → list_any t xs ≡ true → length (filter p xs) < length (filter q xs)
   fewer t out [] h = absurd (false≢true h)
   fewer t out (x ∷ xs) h =
       elim (cases_Bool (t x)) [
@@ -61,14 +66,19 @@ fewer_above set after e has above = counts_fewer (is_above (Some e)) (is_above a
     here : (x : Listed) → e ≡ x → (is_above (Some e) x ≡ false) × (is_above after x ≡ true)
     here x same = (ap (λ (y : Listed). is_lt (listed_cmp e y)) (sym same) ∙ ap is_lt (tied_itself listed_total e), ap (is_above after) (sym same) ∙ above)
 
--- before all entries none is left out
-pub all_above : (set : Places) → left_above set None ≡ listed_len set
-all_above set = sym (length-filter (is_above None) (all_listed set)) ∙ ap length (all (all_listed set))
-  where
-    all : (xs : List Listed) → filter (is_above None) xs ≡ xs
-    all [] = refl
-    all (x ∷ xs) = ap (λ (rest : List Listed). x ∷ rest) (all xs)
-
 -- where nothing is listed, all is aligned
 pub none_aligned : (set : Places) → ((e : Listed) → is_listed set e ≡ false) → AllAligned set
 none_aligned set none e has = absurd (true≢false (sym has ∙ none e))
+
+-- what one owner has is no more than all that is listed
+pub own_length : (owners : List (Owner × OwnPlaces)) (owner : Owner) → length (places_among owners owner) ≤ length (entries_among owners)
+own_length [] owner = omega arith
+own_length (o ∷ owners) owner = by (same_owner owner o.0) (own_length owners owner)
+  where
+    both : length (entries_among (o ∷ owners)) ≡ length (own_list o.1) + length (entries_among owners)
+    both = length-append (map (listed_for o.0) (own_list o.1)) (entries_among owners) ∙ ap (λ (n : ℕ). n + length (entries_among owners)) (length-map (own_list o.1) (listed_for o.0))
+
+    by : (b : Bool) → length (places_among owners owner) ≤ length (entries_among owners)
+        → length (places_in (cond b (Some o.1) (lookup (same_owner owner) owners))) ≤ length (entries_among (o ∷ owners))
+    by true rest = omega (arith, both)
+    by false rest = omega (arith, both)

@@ -1,29 +1,35 @@
 -- The records that are looked up by ascending names are those of a list that pass.
-use Rattle.std.proofs.Common.{◌≡◌, Bool, true, false, Some, refl, sym, ap, subst, ◌∙◌, List, [], ◌∷◌, inl, inr}
+use Rattle.std.proofs.Common.{◌≡◌, ℕ, ◌+◌, ◌<◌, Bool, true, false, cond, Some, refl, sym, ap, subst, ◌∙◌, List, [], ◌∷◌, ◌++◌, add-one, append_assoc, drop, get_or, inl, inr, length, suc}
 use Rattle.std.specs.Prelude.{◌||◌, Option, None, filter, if◌then◌else◌}
-use Rattle.std.specs.List.{All, AllByRecursion, cons_option, filter_map, list_any}
-use Rattle.std.specs.List.Sorted.{IsStrictlySortedBy}
+use Rattle.std.specs.List.{All, AllByRecursion, cons_option, dedup, dedup_from, filter_map, list_any}
+use Rattle.std.specs.List.Retain.{DiffersFromLast, IsFiltered}
+use Rattle.std.specs.List.Sorted.{IsPermutation, IsSorted, IsStrictlySortedBy}
 use Rattle.std.specs.BTreeMap.{is_at}
 use Rattle.std.specs.declared.cmp.Ordering.TheVariants.{Less}
+use Rattle.std.proofs.Math.Seq.{drop-cons}
 use Rattle.std.proofs.lemmas.Bool.{cases_Bool, cond-true, false≢true}
 use Rattle.std.proofs.lemmas.List.Elements.{All-from_recursion}
+use Rattle.std.proofs.lemmas.List.Filters.{dedup_is}
+use Rattle.std.proofs.lemmas.List.Kept.{IsStrictlySortedBy-dedup}
+use Rattle.std.proofs.lemmas.List.Sorted.{list_any-IsPermutation}
 use Rattle.std.proofs.lemmas.Map.Keys.{sorted_head, sorted_tail}
 use Rattle.mapdb_facts.proofs.RecordLemmas.Ascending.{after_at, after_from, among_find, ascending_records, by_id, find_among}
-use Rattle.mapdb_facts.proofs.Lists.Comparing.{exact_ids}
+use Rattle.mapdb_facts.proofs.Lists.Comparing.{exact_ids, id_at}
 use Rattle.mapdb_facts.proofs.RecordLemmas.Listed.{find_listed}
 use Rattle.mapdb_facts.proofs.Lists.SameLists.{same_lists}
-use Rattle.mapdb_facts.proofs.Lists.SameNames.{none_some, some_same}
+use Rattle.mapdb_facts.proofs.Lists.SameNames.{none_some, same_id_true, some_same}
 use Rattle.mapdb_facts.specs.Facts.{births, records_of_facts, state_of_facts}
 use Rattle.mapdb_facts.specs.Kept.{id_cmp, names_in}
 use Rattle.mapdb_facts.specs.Looking.{Holds}
 use Rattle.mapdb_facts.specs.Merging.{IsNamed}
-use Rattle.mapdb_facts.specs.Names.{is_before}
+use Rattle.mapdb_facts.specs.Names.{is_before, same_id}
 use Rattle.mapdb_facts.specs.Records.{AllAfter, IsAmong, IsAscending}
 use Rattle.mapdb_facts.specs.State.{State}
 use Rattle.mapdb_facts.specs.declared.holding.Facts.{Facts}
 use Rattle.mapdb_facts.specs.declared.names.RecordId.{RecordId}
 use Rattle.mapdb_facts.specs.declared.operations.Record.{Record}
-use Rattle.mapdb_rights.specs.Meeting.{record_if}
+use Rattle.mapdb_rights.specs.Meeting.{is_named, record_if}
+use Rattle.mapdb_rights.proofs.Lists.ListedOrder.{id_total}
 use Rattle.mapdb_rights.proofs.Lists.Passing.{among_filter, ascending_filter, filter_among}
 use Rattle.mapdb_rights.proofs.Places.PlaceNames.{before_of}
 
@@ -48,6 +54,43 @@ among_keys id (other ∷ names) h = elim (cases_Bool (is_at (id_cmp id) other)) 
   | inl here ↦ inl (sym (exact_ids id other here))
   | inr apart ↦ inr (among_keys id names (sym (ap (λ (b : Bool). b || list_any (is_at (id_cmp id)) names) apart) ∙ h))
 ]
+
+-- of names in order one of each is left
+module _ (alike : RecordId → RecordId → Bool) (exact : (x y : RecordId) → alike x y ≡ same_id x y) where
+  first_kept : (id k x : RecordId) (xs : List RecordId) → (b : Bool) → alike x k ≡ b → (is_named (k ∷ xs) id ≡ true → is_named (dedup_from alike k xs) id ≡ true)
+      → (is_named (x ∷ xs) id ≡ true → is_named (dedup_from alike x xs) id ≡ true) → is_named (k ∷ x ∷ xs) id ≡ true
+      → is_named (cond b (dedup_from alike k xs) (k ∷ dedup_from alike x xs)) id ≡ true
+  first_kept id k x xs true same behind other h = behind (once (is_at (id_cmp id) k) (is_at (id_cmp id) x) (is_named xs id) (ap (λ (y : RecordId). is_at (id_cmp id) y) (same_id_true x k (sym (exact x k) ∙ same))) h)
+    where
+      once : (a b c : Bool) → b ≡ a → (a || (b || c)) ≡ true → (a || c) ≡ true
+      once true b c e g = refl
+      once false b c e g = sym (ap (λ (t : Bool). t || c) e) ∙ g
+  first_kept id k x xs false apart other behind h = either (is_at (id_cmp id) k) behind h
+    where
+      either : (a : Bool) → (is_named (x ∷ xs) id ≡ true → is_named (dedup_from alike x xs) id ≡ true) → (a || is_named (x ∷ xs) id) ≡ true → (a || is_named (dedup_from alike x xs) id) ≡ true
+      either true next g = refl
+      either false next g = next g
+
+  kept_from : (id k : RecordId) (xs : List RecordId) → is_named (k ∷ xs) id ≡ true → is_named (dedup_from alike k xs) id ≡ true
+  kept_from id k [] h = h
+  kept_from id k (x ∷ xs) h = first_kept id k x xs (alike x k) refl (kept_from id k xs) (kept_from id x xs) h
+
+  kept_once : (id : RecordId) (names : List RecordId) → is_named names id ≡ true → is_named (dedup alike names) id ≡ true
+  kept_once id [] h = h
+  kept_once id (x ∷ xs) h = kept_from id x xs h
+
+  module _ (old sorted new : List RecordId) (moved : IsPermutation old sorted) (left : IsFiltered (DiffersFromLast alike) [] sorted new) where
+    -- names that were sorted, and of which no name is left twice
+    pub names_rise : IsSorted id_cmp sorted → IsStrictlySortedBy id_cmp new
+    names_rise rising =
+        subst (λ (names : List RecordId). IsStrictlySortedBy id_cmp names) (sym (dedup_is alike sorted new left))
+        (IsStrictlySortedBy-dedup id_total (λ x y. exact x y ∙ sym (id_at x y)) sorted rising)
+
+    -- each name is still there
+    pub names_stay : (id : RecordId) → is_named old id ≡ true → is_named new id ≡ true
+    names_stay id h =
+        subst (λ (names : List RecordId). is_named names id ≡ true) (sym (dedup_is alike sorted new left))
+        (kept_once id sorted (sym (list_any-IsPermutation (is_at (id_cmp id)) old sorted moved) ∙ h))
 
 -- ---- those that are looked up
 
@@ -137,6 +180,19 @@ looked_is_filtered facts test names named rising covered =
 
     ascending : IsAscending by_id (records_of_facts facts)
     ascending = ascending_records (births (state_of_facts facts) (names_in facts.records))
+
+-- what one name finds more
+pub looked_more : (find : RecordId → Option Record) (names : List RecordId) (i : ℕ) (d : RecordId) (found new all : List Record) → i < length names
+    → new ≡ found ++ cons_option (find (get_or names i d)) [] → found ++ filter_map find (drop i names) ≡ all → new ++ filter_map find (drop (i + 1) names) ≡ all
+looked_more find names i d found new all inside more before =
+    (λ j. more j ++ filter_map find (drop (add-one i j) names))
+    ∙ append_assoc found (cons_option (find (get_or names i d)) []) (filter_map find (drop (suc i) names))
+    ∙ ap (λ (rest : List Record). found ++ rest) (joined (find (get_or names i d)) (filter_map find (drop (suc i) names)) ∙ sym (ap (filter_map find) (drop-cons names i d inside)))
+    ∙ before
+  where
+    joined : (o : Option Record) (rest : List Record) → cons_option o [] ++ rest ≡ cons_option o rest
+    joined None rest = refl
+    joined (Some r) rest = refl
 
 -- what is true of each member is true of all
 all_members : (P : Record → Type 0) (xs : List Record) → ((r : Record) → IsAmong r xs → P r) → AllByRecursion P xs

@@ -1,5 +1,5 @@
 -- What holds of an answer that is no error.
-use Rattle.std.specs.Prelude.{OnOk, Result, Ok, Err}
+use Rattle.std.specs.Prelude.{IfOk, OnOk, Result, Ok, Err}
 
 pub on_ok : {T E : Type 0} {P Q : Type 0} (r : Result T E) → (P → Q) → OnOk r P → OnOk r Q
 on_ok (Ok v) f h = f h
@@ -12,3 +12,7 @@ on_both (Err e) f h k = h
 pub on_any : {T E : Type 0} {P : Type 0} (r : Result T E) → P → OnOk r P
 on_any (Ok v) h = h
 on_any (Err e) h = search Rattle.std.proofs.Common.rules
+
+pub if_both : {T E : Type 0} (r : Result T E) (P Q R : T → Type 0) → ((v : T) → P v → Q v → R v) → IfOk r P → IfOk r Q → IfOk r R
+if_both (Ok v) P Q R f h k = f v h k
+if_both (Err e) P Q R f h k = h

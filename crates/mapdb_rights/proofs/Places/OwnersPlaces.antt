@@ -9,7 +9,6 @@ use Rattle.std.specs.Ordering.{is_eq, is_gt, is_lt}
 use Rattle.std.specs.declared.ops.Bound.TheVariants.{Excluded, Included}
 use Rattle.std.proofs.lemmas.Bool.{cases_Bool, cond-false, cond-true, false≢true, true≢false}
 use Rattle.std.proofs.lemmas.List.Folds.{list_any-append}
-use Rattle.mapdb_rights.specs.declared.index.own_places.FoundPlace.{FoundPlace}
 use Rattle.mapdb_rights.specs.declared.index.own_places.OwnPlace.{OwnPlace}
 use Rattle.mapdb_rights.specs.declared.index.own_places.OwnPlaces.{OwnPlaces}
 use Rattle.mapdb_rights.specs.declared.index.places.Listed.{Listed}
@@ -17,8 +16,8 @@ use Rattle.mapdb_rights.specs.declared.index.places.Owner.{Owner}
 use Rattle.mapdb_rights.specs.declared.index.places.Owner.TheVariants.{Record, Space}
 use Rattle.mapdb_rights.specs.declared.index.places.Places.{Places}
 use Rattle.mapdb_rights.specs.contracts.index.places.OwnerPartialEq.TheImpl as owner_eq
-use Rattle.mapdb_rights.specs.Listing.{AllAligned, IsFirstInside, IsLastEntryWhereSaid, IsNextMeeting, entries_among, found_entry, found_for, is_above, is_among, is_listed, listed_cmp, listed_for, own_place, places_among, places_in, same_owner}
-use Rattle.mapdb_rights.specs.OwnPlaces.{AreAligned, IsFirstPlaceWhere, IsLastWhereSaid, IsNextPlace, found_place, is_beyond, own_list, place_cmp, stands}
+use Rattle.mapdb_rights.specs.Listing.{AllAligned, IsFirstInside, IsNextMeeting, entries_among, is_above, is_among, is_listed, listed_cmp, listed_for, own_place, places_among, places_in, same_owner}
+use Rattle.mapdb_rights.specs.OwnPlaces.{AreAligned, IsFirstPlaceWhere, IsNextPlace, is_beyond, own_list, place_cmp, stands}
 use Rattle.mapdb_rights.proofs.Lists.ListedOrder.{exact_owner, less_from, listed_apart, owner_is, same_then}
 use Rattle.mapdb_rights.proofs.Places.PlaceOrder.{le_as, le_is}
 
@@ -60,11 +59,11 @@ cmp_is a b same = same_then a b same
 -- ---- the places of an owner among those of all
 
 module _ (set : Places) (owner : Owner) (places : List OwnPlace) (is : places_among set.own.entries owner ≡ places) where
-  there : (k : Listed) → k.owner ≡ owner → is_listed set k ≡ true → stands places (own_place k) ≡ true
+  pub there : (k : Listed) → k.owner ≡ owner → is_listed set k ≡ true → stands places (own_place k) ≡ true
   there k own has =
       sym (ap (λ (l : List OwnPlace). stands l (own_place k)) is) ∙ ap (λ (o : Owner). stands (places_among set.own.entries o) (own_place k)) (sym own) ∙ has
 
-  back : (p : OwnPlace) → stands places p ≡ true → is_listed set (listed_for owner p) ≡ true
+  pub back : (p : OwnPlace) → stands places p ≡ true → is_listed set (listed_for owner p) ≡ true
   back p has = ap (λ (l : List OwnPlace). stands l p) is ∙ has
 
   pub own_aligned : AllAligned set → AreAligned places
@@ -109,17 +108,6 @@ module _ (set : Places) (owner : Owner) (places : List OwnPlace) (is : places_am
     least = λ k has own above meeting. ap is_gt (cmp_is (listed_for owner p) k (sym own))
         ∙ h.least (own_place k) (there k own has) (sym (above_is after same k own) ∙ above) meeting;
   }
-
-  pub found_own : (first end : ℕ) (after : Option Listed) → IfSome after (λ e. e.owner ≡ owner) → (r : Option FoundPlace)
-      → IsNextPlace places first end (option_map own_place after) (option_map found_place r)
-      → IsNextMeeting set owner first end after (option_map found_entry (option_map (found_for owner) r))
-  found_own first end after same None h = next_own first end after same None h
-  found_own first end after same (Some f) h = next_own first end after same (Some f.place) h
-
-  pub last_own : (first end : ℕ) (r : Option FoundPlace) → IfSome r (IsLastWhereSaid places first end)
-      → IfSome (option_map (found_for owner) r) (IsLastEntryWhereSaid set owner first end)
-  last_own first end None h = tt
-  last_own first end (Some f) h = λ last. next_own first end (Some (listed_for owner f.place)) refl None (h last)
 
 -- ---- one entry more
 

@@ -1,8 +1,7 @@
 -- A record whose place, or whose source, shares pages with a place has an entry that meets its pages.
 use Rattle.std.proofs.Common.{◌≡◌, ℕ, ◌+◌, ◌-◌, ◌<◌, Bool, true, false, List, refl, ap, ◌∙◌, arith}
 use Rattle.std.specs.Prelude.{None, Some, filter, is_some, max, min, nat_le, nat_lt, if◌then◌else◌}
-use Rattle.std.specs.BTreeMap.{is_at}
-use Rattle.std.specs.List.{filter_map, list_any}
+use Rattle.std.specs.List.{filter_map}
 use Rattle.std.specs.List.Sorted.{IsStrictlySortedBy}
 use Rattle.std.proofs.lemmas.Bool.{and_parts, false≢true, lt-ltb}
 use Rattle.std.proofs.lemmas.Nat.{pow_pos}
@@ -21,7 +20,7 @@ use Rattle.mapdb_facts.specs.declared.names.RecordId.{RecordId}
 use Rattle.mapdb_facts.specs.declared.operations.Record as operations
 use Rattle.mapdb_rights.specs.Following.{AreListed}
 use Rattle.mapdb_rights.specs.Listing.{is_listed, meets, place_of, source_of}
-use Rattle.mapdb_rights.specs.Meeting.{record_if, shares_part, source_place}
+use Rattle.mapdb_rights.specs.Meeting.{is_named, record_if, shares_part, source_place}
 use Rattle.mapdb_rights.specs.declared.index.places.Listed.{Listed}
 use Rattle.mapdb_rights.specs.declared.index.places.Owner.{Owner}
 use Rattle.mapdb_rights.specs.declared.index.places.Owner.TheVariants.{Record, Space}
@@ -75,11 +74,12 @@ each_sharing set S P part there (Record parent) each r held shares =
     each (source_of r) (there.places r held).by_parent (ap Record (same_id_true r.parent parent parts.0)) (meet_meets (source_place r) part parts.1)
 
 -- what the names of the entries that meet the pages find, as far as it shares pages with the place, is all that does
-pub sharing_is_all : (facts : Facts) (set : Places) (owner : Owner) (part : Place) (names : List RecordId) (first end : ℕ)
+pub sharing_is_all : (facts : Facts) (set : Places) (owner : Owner) (part : Place) (read names : List RecordId) (first end : ℕ) → read ≡ names
     → IsNamed (state_of_facts facts) → AreListed (state_of_facts facts) set → first ≡ part.first_page → end ≡ part.first_page + page_total part → IsStrictlySortedBy id_cmp names
-    → ((e : Listed) → is_listed set e ≡ true → e.owner ≡ owner → meets e first end ≡ true → list_any (is_at (id_cmp e.id)) names ≡ true)
-    → filter_map (λ id. record_if (shares_part owner part) ((state_of_facts facts).record_at id)) names ≡ filter (shares_part owner part) (records_of_facts facts)
-sharing_is_all facts set owner part names first end named there first_is end_is rising each =
-    looked_is_filtered facts (shares_part owner part) names named (ascending_keys names rising)
+    → ((e : Listed) → is_listed set e ≡ true → e.owner ≡ owner → meets e first end ≡ true → is_named names e.id ≡ true)
+    → filter_map (λ id. record_if (shares_part owner part) ((state_of_facts facts).record_at id)) read ≡ filter (shares_part owner part) (records_of_facts facts)
+sharing_is_all facts set owner part read names first end is named there first_is end_is rising each =
+    ap (filter_map (λ id. record_if (shares_part owner part) ((state_of_facts facts).record_at id))) is
+    ∙ looked_is_filtered facts (shares_part owner part) names named (ascending_keys names rising)
     (each_sharing set (state_of_facts facts) (λ (id : RecordId). IsAmong id names) part there owner
     (λ e has own meeting. among_keys e.id names (each e has own ((λ i. meets e (first_is i) (end_is i)) ∙ meeting))))

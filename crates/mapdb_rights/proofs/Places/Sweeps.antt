@@ -1,18 +1,13 @@
--- Sweeping over entries: one that is next, and what comes behind it.
-use Rattle.std.proofs.Common.{◌≡◌, ℕ, ◌+◌, ◌*◌, ◌<◌, ◌≤◌, true, ap, arith, inl, inr, mul-le-mul_right}
-use Rattle.std.specs.Prelude.{◌⊎◌, Option, Some, min, max, nat_lt}
-use Rattle.std.specs.Ordering.{is_lt}
+-- What meets the pages of a sweep, and how much a sweep counts.
+use Rattle.std.proofs.Common.{◌≡◌, ℕ, ◌+◌, ◌*◌, ◌<◌, ◌≤◌, true, ap, arith, mul-le-mul_right}
+use Rattle.std.specs.Prelude.{min, max, nat_lt}
 use Rattle.std.proofs.lemmas.Bool.{lt-ltb}
 use Rattle.mapdb_fpage.proofs.Meets.{holds_range}
 use Rattle.mapdb_fpage.specs.Bounds.{page_limit}
 use Rattle.mapdb_fpage.specs.Place.{IsPlace, holds}
 use Rattle.mapdb_facts.specs.declared.operations.Record.{Record}
 use Rattle.mapdb_rights.specs.Right.{source_page}
-use Rattle.mapdb_rights.specs.declared.index.places.Listed.{Listed}
-use Rattle.mapdb_rights.specs.declared.index.places.Owner.{Owner}
-use Rattle.mapdb_rights.specs.Listing.{IsLeastMeeting, is_above, is_listed, meets, listed_pages, place_of, source_of}
-use Rattle.mapdb_rights.proofs.Lists.ListedOrder.{same_or_above}
-use Rattle.mapdb_rights.specs.declared.index.places.Places.{Places}
+use Rattle.mapdb_rights.specs.Listing.{meets, listed_pages, place_of, source_of}
 
 -- pages that share one meet
 shared : (a b first end page : ℕ) → a ≤ page → page < b → first ≤ page → page < end → nat_lt (max a first) (min b end) ≡ true
@@ -31,14 +26,9 @@ place_meets r page place inside =
     let within = place.in_space in
     shared r.place.first_page (r.place.first_page + listed_pages (place_of r)) 0 page_limit page (omega arith) (omega arith) (omega arith) (omega arith)
 
--- what was to come is this entry, or comes behind it
-pub next_or_later : (set : Places) (owner : Owner) (first end : ℕ) (after : Option Listed) (e k : Listed) → IsLeastMeeting set owner first end after e
-    → is_listed set k ≡ true → k.owner ≡ owner → is_above after k ≡ true → meets k first end ≡ true → (e ≡ k) ⊎ (is_above (Some e) k ≡ true)
-next_or_later set owner first end after e k next has own above meeting =
-    elim (same_or_above e k (next.least k has own above meeting)) [
-      | inl same ↦ inl same
-      | inr less ↦ inr (ap is_lt less)
-    ]
+-- at the start all are to be counted
+pub counted_first : (old share before len : ℕ) → before ≡ len → old + before * share ≤ old + len * share
+counted_first old share before len same = omega (arith, ap (λ (n : ℕ). n * share) same)
 
 -- one share more is counted for one entry less
 pub counted_on : (old new share before after len initial : ℕ) → old + before * share ≤ initial + len * share → new ≤ old + share → after < before → new + after * share ≤ initial + len * share

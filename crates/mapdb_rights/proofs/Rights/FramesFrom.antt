@@ -15,7 +15,6 @@ use Rattle.mapdb_facts.specs.declared.operations.Record.{Record}
 use Rattle.mapdb_rights.specs.declared.index.changes.Change.{Change}
 use Rattle.mapdb_rights.specs.Caching.{covers, rights_from}
 use Rattle.mapdb_rights.specs.Changes.{AreFrames, PageChanges, HasFrame, at_first, past_the_end, cached_in, change_at, changed, seen_in}
-use Rattle.mapdb_rights.specs.Frame.{frame_at}
 use Rattle.mapdb_rights.specs.PageRights.{pair_with}
 use Rattle.mapdb_rights.specs.Right.{reaches, source_page}
 use Rattle.mapdb_rights.proofs.Rights.Frames.{frames_stay}
@@ -43,18 +42,6 @@ root_frame S id page top inside = record {
 }
 
 module _ (S : State) (id : RecordId) where
-  some_same : (a b : ℕ) → Some a ≡ Some b → a ≡ b
-  some_same a b e = cc
-
-  -- so it goes on
-  pub root_frame_on : (page q shift : ℕ) → is_root id ≡ true → page < page_limit → q < page_limit → HasFrame S id page shift → HasFrame S id q shift
-  root_frame_on page q shift top inside before has =
-      let itself : frame_at S id page ≡ Some page = frame_at-root S id page top ∙ cond-true (is_page page) (Some page) None (lt-ltb page page_limit inside) in
-      let same : has.frame ≡ page = some_same has.frame page (sym has.reached ∙ itself) in
-      let far = has.far in
-      let is : page_limit ≡ shift = omega (arith, same, far) in
-      subst (λ (s : ℕ). HasFrame S id q s) is (root_frame S id q top before)
-
   -- that of a record is its parent's, as far as the source page lies from the page
   module _ (r : Record) (other : is_root id ≡ false) (held : S.record_at id ≡ Some r) where
     pub up_frame : (page up shift : ℕ) → reaches id r page ≡ true → page < page_limit → HasFrame S r.parent (source_page r page) up → shift ≡ (up + source_page r page) - page → HasFrame S id page shift
@@ -79,24 +66,6 @@ module _ (S : State) (id : RecordId) where
 
       pub up_has : (page : ℕ) → is_empty (rights_from (cached_in changes) S id page) ≡ false → HasFrame S r.parent (source_page r page) (seen_in changes r.parent (source_page r page)).shift
       up_has page some = frames r.parent (source_page r page) (up_some page some)
-
-      pub up_frame_on : (page q shift : ℕ) → reaches id r page ≡ true → reaches id r q ≡ true → page ≤ q → r.place.first_page ≤ page
-          → seen_in changes r.parent (source_page r q) ≡ seen_in changes r.parent (source_page r page)
-          → is_empty (rights_from (cached_in changes) S id page) ≡ false → HasFrame S id page shift → HasFrame S id q shift
-      up_frame_on page q shift reach reach_q later inside same some has =
-          let here = up_has page some in
-          let there = frames r.parent (source_page r q) ((λ i. is_empty (same i).rights) ∙ up_some page some) in
-          let one : has.frame ≡ here.frame = some_same has.frame here.frame (sym has.reached ∙ frame_at-up S id r page other held reach ∙ here.reached) in
-          let shift_same : (seen_in changes r.parent (source_page r q)).shift ≡ (seen_in changes r.parent (source_page r page)).shift = λ i. (same i).shift in
-          let far = has.far in
-          let far_here = here.far in
-          let far_there = there.far in
-          record {
-            frame = there.frame;
-            reached = frame_at-up S id r q other held reach_q ∙ there.reached;
-            below = there.below;
-            far = omega (arith, one, shift_same, far, far_here, far_there);
-          }
 
 -- frames stay, whatever is said after
 pub frames_later : (S T : State) (changes : PageChanges) → AreFrames S changes → AreFrames (join S T) changes

@@ -17,7 +17,7 @@ use Rattle.mapdb_rights.specs.declared.index.stale.Stale.{Stale}
 use Rattle.mapdb_rights.specs.Caching.{AreRights, Cached, IsSettled, Stirs}
 use Rattle.mapdb_rights.specs.Changes.{AreFrames, PageChanges}
 use Rattle.mapdb_rights.specs.Following.{AreListed}
-use Rattle.mapdb_rights.specs.Listing.{AllAligned, AreOfHeld, IsListed, is_listed, place_of, source_of}
+use Rattle.mapdb_rights.specs.Listing.{AllAligned, AreOfHeld, IsListed, held_record, is_listed, place_of, source_of}
 use Rattle.mapdb_rights.specs.Pending.{AreSettledBut, IsPending}
 use Rattle.mapdb_rights.specs.PageRights.{is_record_into}
 use Rattle.mapdb_rights.specs.declared.index.places.Owner.TheVariants as owners
@@ -59,6 +59,7 @@ listed_alike S before T set is none are = record {
   places = λ r held. are.places r (alike r.id ∙ held);
   aligned = are.aligned;
   held = of_held_on S before T set is are.held;
+  by_name = λ id. are.by_name id ∙ alike id;
 }
   where
     alike : (id : RecordId) → before.record_at id ≡ S.record_at id
@@ -94,13 +95,14 @@ module _ (old new : Places) (kept : (e : Listed) → is_listed old e ≡ true �
   listed_of r held None at e = newly r held (same_id m.id r.id) e
   listed_of r held (Some s) at e = listed_on old new kept r (listed.places r (at ∙ e))
 
-  pub listed_by_record : AllAligned new → AreOfHeld S new → IsNamed S → ((r : Record) → Holds S r → IsFormedRecord r) → AreListed S new
-  listed_by_record aligned held_all named formed = record {
+  pub listed_by_record : AllAligned new → AreOfHeld S new → IsNamed S → ((r : Record) → Holds S r → IsFormedRecord r) → ((id : RecordId) → held_record new id ≡ S.record_at id) → AreListed S new
+  listed_by_record aligned held_all named formed by_name = record {
     named = named;
     formed = formed;
     places = λ r held. listed_of r held (before.record_at r.id) refl (looked r (before.record_at r.id) refl held);
     aligned = aligned;
     held = held_all;
+    by_name = by_name;
   }
 
 -- what is listed with a held record more is of held records

@@ -62,22 +62,20 @@ covers_parts id first middle end other page h =
 -- ---- what a run is settled to
 
 module _ (S : State) (old new : Cached) (id : RecordId) (first end : ℕ) (rights : Rights)
-    (is : rights ≡ rights_from old S id first)
-    (same : (q : ℕ) → first ≤ q → q < end → rights_from old S id q ≡ rights_from old S id first) where
+    (is : (q : ℕ) → first ≤ q → q < end → rights ≡ rights_from old S id q) where
   -- over the run the rights are those that come from the parent
   from_parent : (other : RecordId) (page : ℕ) → covers id first end other page ≡ true → rights ≡ rights_from old S other page
   from_parent other page h =
       let c = covered id first end other page h in
-      is ∙ sym (same page c.from c.before) ∙ ap (λ (o : RecordId). rights_from old S o page) c.same
+      is page c.from c.before ∙ ap (λ (o : RecordId). rights_from old S o page) c.same
 
   -- nothing has to be written
-  pub settled_already : ((q : ℕ) → first ≤ q → q < end → old id q ≡ old id first) → rights ≡ old id first → (other : RecordId) (page : ℕ)
+  pub settled_already : ((q : ℕ) → first ≤ q → q < end → old id q ≡ rights) → (other : RecordId) (page : ℕ)
       → IsSettled S old other page ⊎ (covers id first end other page ≡ true) → IsSettled S old other page
-  settled_already kept known other page (inl settled) = settled
-  settled_already kept known other page (inr inside) =
+  settled_already kept other page (inl settled) = settled
+  settled_already kept other page (inr inside) =
       let c = covered id first end other page inside in
-      subst (λ (o : RecordId). IsSettled S old o page) c.same
-      (kept page c.from c.before ∙ sym known ∙ is ∙ sym (same page c.from c.before))
+      subst (λ (o : RecordId). IsSettled S old o page) c.same (kept page c.from c.before ∙ is page c.from c.before)
 
   module _ (written : (other : RecordId) (page : ℕ) → new other page ≡ (if covers id first end other page then rights else old other page)) where
     taken : IsTakenAnew S old id first end new

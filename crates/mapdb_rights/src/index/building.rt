@@ -1,8 +1,9 @@
 //! Cached rights of whole facts.
 
-ghost use Rattle.std.specs.Prelude.{◌≡◌, [], OnOk};
+ghost use Rattle.std.specs.Prelude.{◌≡◌, [], None, OnOk};
 ghost use Rattle.mapdb_facts.specs.Facts.{state_of_facts};
-ghost use Rattle.mapdb_rights.specs.Listing.{AllAligned, AreOfHeld};
+ghost use Rattle.mapdb_facts.specs.declared.names.RecordId.{RecordId};
+ghost use Rattle.mapdb_rights.specs.Listing.{AllAligned, AreOfHeld, held_record};
 ghost use Rattle.mapdb_rights.specs.Following.{Stands};
 
 use super::changes::AllChanges;
@@ -25,6 +26,7 @@ pub fn settle_all(
     requires changes { changes.old.own.entries ≡ [] }
     requires listed { AllAligned listed.old }
     requires held { AreOfHeld (state_of_facts facts.now) listed.old }
+    requires none { (id : RecordId) → held_record listed.old id ≡ None }
     ensures { OnOk result (Stands changes.new listed.new (state_of_facts facts.now)) }
 {
     list_records(listed, facts)?;

@@ -1,9 +1,10 @@
 //! What records have at pages, kept as the pages from which something else stands.
 
-ghost use Rattle.std.specs.Prelude.{◌≡◌, ◌≤◌, ◌<◌, ◌+◌, ℕ, None, IsSome, OnOk, [], is_some};
+ghost use Rattle.std.specs.Prelude.{◌≡◌, ◌≤◌, ◌<◌, ◌+◌, ℕ, None, OnOk, [], true};
 ghost use Rattle.std.specs.Prelude.{if◌then◌else◌};
 ghost use Rattle.mapdb_facts.specs.declared.names.RecordId.{RecordId};
-ghost use Rattle.mapdb_rights.specs.Changes.{IsPut, at_first, cached_in, change_at, seen_in};
+ghost use Rattle.mapdb_rights.specs.Changes.{IsStretch, IsWritten, at_first, cached_in, change_at};
+ghost use Rattle.mapdb_rights.specs.Changes.{past_the_end, seen_in};
 ghost use Rattle.mapdb_rights.specs.Caching.{covers};
 ghost use Rattle.mapdb_rights.specs.OwnChanges.{IsLastUpTo, IsNoneUntil};
 
@@ -30,6 +31,14 @@ impl Change {
         shift: PAGE_LIMIT,
     };
 
+    /// Whether both are the same.
+    pub(crate) fn is(self, other: Change) -> bool
+        ensures same { result ≡ true → self ≡ other }
+        ensures itself { self ≡ other → result ≡ true }
+    {
+        self.rights == other.rights && self.shift == other.shift
+    }
+
     /// The frame of a page.
     pub fn frame(&self, page: u64) -> u64
         ensures { (frame : ℕ) → frame < PAGE_LIMIT → frame + PAGE_LIMIT ≡ page + self.now.shift
@@ -42,6 +51,27 @@ impl Change {
 impl Default for Change {
     fn default() -> Change {
         Change::NONE
+    }
+}
+
+/// What stands at a page, and how far.
+#[derive(Clone, Copy, Debug)]
+pub struct Stretch {
+    /// What stands there.
+    pub change: Change,
+    /// The end of the pages over which it stands.
+    pub end: u64,
+}
+
+impl Stretch {
+    /// No rights up to an end.
+    pub(crate) fn none_until(end: u64) -> Stretch
+        ensures { result ≡ (record { change = past_the_end; end = end }) }
+    {
+        Stretch {
+            change: Change::NONE,
+            end,
+        }
     }
 }
 
@@ -87,36 +117,6 @@ fn next_change(changes: &AllChanges, id: RecordId, page: u64) -> u64
     }
 }
 
-/// Whether a record has a change at a page.
-fn has_change(changes: &AllChanges, id: RecordId, page: u64) -> bool
-    ensures { result ≡ is_some (change_at changes.now.own.entries id page) }
-{
-    match last_change(changes, id, page) {
-        Some((at, _)) => at == page,
-        None => false,
-    }
-}
-
-/// Puts a change of a record among all, in place of one that stands at its page. An error where
-/// memory ran out.
-fn put(
-    own_changes: &mut HashMap<RecordId, OwnChanges>,
-    alloc: Global,
-    id: RecordId,
-    page: u64,
-    change: Change,
-) -> Result<(), AllocError>
-    ensures { OnOk result (IsPut own_changes.old.entries id page change own_changes.new.entries) }
-{
-    if let Some(own) = own_changes.get_mut(&id) {
-        return own.put(alloc, page, change);
-    }
-    let mut own = OwnChanges::new(alloc);
-    own.put(alloc, page, change)?;
-    own_changes.insert(id, own)?;
-    Ok(())
-}
-
 /// What a record has before any change: the root has all rights, and each page of it is its own
 /// frame.
 fn first_change(id: RecordId) -> Change
@@ -153,6 +153,22 @@ pub(crate) fn cached_at(changes: &AllChanges, id: RecordId, page: u64) -> Rights
     seen_at(changes, id, page).rights
 }
 
+/// What is cached of a record at a page, and how far one change stands. The record's changes are
+/// looked up once.
+pub(crate) fn stretch_at(changes: &AllChanges, id: RecordId, page: u64) -> Stretch
+    requires { page < PAGE_LIMIT }
+    ensures { IsStretch (change_at changes.now.own.entries id) (at_first id) page result }
+{
+    let first = first_change(id);
+    match changes.own.get(&id) {
+        Some(own) => own.stretch(first, page),
+        None => Stretch {
+            change: first,
+            end: PAGE_LIMIT,
+        },
+    }
+}
+
 /// The end of pages from one on over which one change stands.
 pub(crate) fn unchanged_until(changes: &AllChanges, id: RecordId, page: u64) -> u64
     requires { page < PAGE_LIMIT }
@@ -165,24 +181,29 @@ pub(crate) fn unchanged_until(changes: &AllChanges, id: RecordId, page: u64) -> 
     next_change(changes, id, page)
 }
 
-/// Makes what stands at the end of pages over which one change stands a change of its own.
-fn split_at(changes: &mut AllChanges, id: RecordId, first: u64, end: u64) -> Result<(), AllocError>
-    requires some { first < end }
-    requires limit { end ≤ PAGE_LIMIT }
-    requires one { (q : ℕ) → first < q → q < end → change_at changes.old.own.entries id q ≡ None }
-    ensures same { OnOk result ((other : RecordId) (page : ℕ)
-        → seen_in changes.new.own.entries other page
-        ≡ seen_in changes.old.own.entries other page) }
-    ensures one { OnOk result ((q : ℕ) → first < q → q < end
-        → change_at changes.new.own.entries id q ≡ None) }
-    ensures ends { OnOk result (end < PAGE_LIMIT
-        → IsSome (change_at changes.new.own.entries id end)) }
+/// Gives a change to pages of a record among all, over which another stood. The record's changes
+/// are looked up once. An error where memory ran out.
+fn write_among(
+    own_changes: &mut HashMap<RecordId, OwnChanges>,
+    alloc: Global,
+    id: RecordId,
+    first: u64,
+    end: u64,
+    was: Change,
+    change: Change,
+) -> Result<(), AllocError>
+    requires { first < end }
+    ensures { OnOk result (IsWritten own_changes.old.entries id first end was change
+        own_changes.new.entries) }
 {
-    if end == PAGE_LIMIT || has_change(changes, id, end) {
-        return Ok(());
+    let before = first_change(id);
+    if let Some(own) = own_changes.get_mut(&id) {
+        return own.write(alloc, before, first, end, was, change);
     }
-    let change = seen_at(changes, id, first);
-    put(&mut changes.own, changes.alloc, id, end, change)
+    let mut own = OwnChanges::new(alloc);
+    own.write(alloc, before, first, end, was, change)?;
+    own_changes.insert(id, own)?;
+    Ok(())
 }
 
 /// Gives rights and frames to pages of a record over which one change stands.
@@ -191,11 +212,13 @@ pub(crate) fn write(
     id: RecordId,
     first: u64,
     end: u64,
+    was: Change,
     change: Change,
 ) -> Result<(), AllocError>
     requires some { first < end }
     requires limit { end ≤ PAGE_LIMIT }
     requires one { (q : ℕ) → first < q → q < end → change_at changes.old.own.entries id q ≡ None }
+    requires was { was ≡ seen_in changes.old.own.entries id first }
     ensures seen { OnOk result ((other : RecordId) (page : ℕ)
         → seen_in changes.new.own.entries other page
         ≡ (if covers id first end other page then change
@@ -205,6 +228,5 @@ pub(crate) fn write(
         ≡ (if covers id first end other page then change.rights
         else cached_in changes.old.own.entries other page)) }
 {
-    split_at(changes, id, first, end)?;
-    put(&mut changes.own, changes.alloc, id, first, change)
+    write_among(&mut changes.own, changes.alloc, id, first, end, was, change)
 }

@@ -1,17 +1,22 @@
 //! What has its pages from a record, and what stands in a space: their pages join what is stale.
 
-ghost use Rattle.std.specs.Prelude.{◌≡◌, ◌≤◌, ◌<◌, ◌+◌, ◌*◌, ℕ, true, Some, OnOk};
-ghost use Rattle.mapdb_fpage.specs.Place.{holds};
+ghost use Rattle.std.specs.Prelude.{◌≡◌, ◌≤◌, ◌<◌, ◌+◌, ◌*◌, ℕ, true, Some, OnOk, length};
+ghost use Rattle.mapdb_fpage.specs.Place.{IsPlace, holds};
 ghost use Rattle.mapdb_facts.specs.Facts.{state_of_facts};
 ghost use Rattle.mapdb_facts.specs.Looking.{Holds};
 ghost use Rattle.mapdb_facts.specs.Names.{same_id, same_space};
 ghost use Rattle.mapdb_facts.specs.WellFormed.{IsFormedRecord};
 ghost use Rattle.mapdb_facts.specs.declared.names.RecordId.{RecordId};
 ghost use Rattle.mapdb_facts.specs.declared.operations.Record.{Record};
-ghost use Rattle.mapdb_rights.specs.Listing.{AllAligned, IsListed, listed_len};
+ghost use Rattle.mapdb_rights.specs.Following.{AreListed};
+ghost use Rattle.mapdb_rights.specs.Listing.{IsListed, listed_len, own_place, place_of};
+ghost use Rattle.mapdb_rights.specs.Listing.{source_of};
+ghost use Rattle.mapdb_rights.specs.OwnPlaces.{AreAligned, own_list, stands};
 ghost use Rattle.mapdb_rights.specs.Pending.{IsPending, share, weight};
 ghost use Rattle.mapdb_rights.specs.Right.{source_page};
 
+use super::listing::record_under;
+use super::own_places::{OwnPlaces, Sweep};
 use super::places::{Owner, Places};
 use super::stale::Stale;
 use mapdb_facts::{Facts, Record, RecordId, Space};
@@ -51,12 +56,14 @@ fn push_child(
 /// The pages of a child, if it is one of this parent, join what is stale.
 fn push_held(
     stack: &mut Vec<Stale>,
+    listed: &Places,
     facts: &Facts,
     parent: RecordId,
     id: RecordId,
     first: u64,
     end: u64,
 ) -> Result<(), AllocError>
+    requires { AreListed (state_of_facts facts.now) listed.now }
     ensures kept { OnOk result ((other : RecordId) (page : ℕ)
         → IsPending stack.old.items other page → IsPending stack.new.items other page) }
     ensures stale { OnOk result ((r : Record) → (state_of_facts facts.now).record_at id ≡ Some r
@@ -66,10 +73,42 @@ fn push_held(
     ensures weight { OnOk result ((base : ℕ) → 0 < base → weight base stack.new.items
         ≤ weight base stack.old.items + share base (parent.number + 1)) }
 {
-    match facts.record(id) {
+    match record_under(listed, facts, id) {
         Some(child) if child.parent.is(parent) => push_child(stack, &child, first, end),
         _ => Ok(()),
     }
+}
+
+/// The children of the parent that these places are the sources of: their pages that come from
+/// these pages join what is stale.
+fn push_sources(
+    stack: &mut Vec<Stale>,
+    own: &OwnPlaces,
+    listed: &Places,
+    facts: &Facts,
+    parent: RecordId,
+    first: u64,
+    end: u64,
+) -> Result<(), AllocError>
+    requires aligned { AreAligned (own_list own.now) }
+    requires listed { AreListed (state_of_facts facts.now) listed.now }
+    ensures kept { OnOk result ((id : RecordId) (page : ℕ)
+        → IsPending stack.old.items id page → IsPending stack.new.items id page) }
+    ensures stale { OnOk result ((r : Record) → Holds (state_of_facts facts.now) r
+        → r.parent ≡ parent → stands (own_list own.now) (own_place (source_of r)) ≡ true
+        → (page : ℕ) → holds r.place page ≡ true
+        → first ≤ source_page r page → source_page r page < end
+        → IsPending stack.new.items r.id page) }
+    ensures weight { OnOk result ((base : ℕ) → 0 < base → weight base stack.new.items
+        ≤ weight base stack.old.items
+        + length (own_list own.now) * share base (parent.number + 1)) }
+{
+    let mut sweep = Sweep::start();
+    'children: while let Some(next) = own.next_place(first, end, sweep) {
+        push_held(stack, listed, facts, parent, next.place.id, first, end)?;
+        sweep = next.sweep;
+    }
+    Ok(())
 }
 
 /// The children of the parent whose source meets these pages: their pages that come from there join
@@ -82,7 +121,7 @@ pub(crate) fn push_children(
     first: u64,
     end: u64,
 ) -> Result<(), AllocError>
-    requires { AllAligned listed.now }
+    requires { AreListed (state_of_facts facts.now) listed.now }
     ensures kept { OnOk result ((id : RecordId) (page : ℕ)
         → IsPending stack.old.items id page → IsPending stack.new.items id page) }
     ensures stale { OnOk result ((r : Record) → Holds (state_of_facts facts.now) r
@@ -94,29 +133,53 @@ pub(crate) fn push_children(
         ≤ weight base stack.old.items
         + listed_len listed.now * share base (parent.number + 1)) }
 {
-    let mut after = None;
-    let owner = Owner::Record(parent);
-    'children: while let Some(child) = listed.next_meeting(owner, first, end, after) {
-        push_held(stack, facts, parent, child.id, first, end)?;
-        after = Some(child);
+    match listed.own(Owner::Record(parent)) {
+        Some(own) => push_sources(stack, own, listed, facts, parent, first, end),
+        None => Ok(()),
     }
-    Ok(())
 }
 
 /// The pages of a record's place join what is stale.
-fn push_place(stack: &mut Vec<Stale>, facts: &Facts, id: RecordId) -> Result<(), AllocError>
+fn push_place(
+    stack: &mut Vec<Stale>,
+    listed: &Places,
+    facts: &Facts,
+    id: RecordId,
+) -> Result<(), AllocError>
+    requires { AreListed (state_of_facts facts.now) listed.now }
     ensures kept { OnOk result ((other : RecordId) (page : ℕ)
         → IsPending stack.old.items other page → IsPending stack.new.items other page) }
     ensures stale { OnOk result ((r : Record) → (state_of_facts facts.now).record_at id ≡ Some r
         → (page : ℕ)
         → holds r.place page ≡ true → IsPending stack.new.items id page) }
 {
-    if let Some(mapping) = facts.record(id) {
+    if let Some(mapping) = record_under(listed, facts, id) {
         stack.push(Stale {
             id,
             first: mapping.place.first_page(),
             end: mapping.place.end(),
         })?;
+    }
+    Ok(())
+}
+
+/// The pages of all records that stand at these places join what is stale.
+fn push_places(
+    stack: &mut Vec<Stale>,
+    own: &OwnPlaces,
+    listed: &Places,
+    facts: &Facts,
+) -> Result<(), AllocError>
+    requires aligned { AreAligned (own_list own.now) }
+    requires listed { AreListed (state_of_facts facts.now) listed.now }
+    ensures { OnOk result ((r : Record) → Holds (state_of_facts facts.now) r → IsPlace r.place
+        → stands (own_list own.now) (own_place (place_of r)) ≡ true → (page : ℕ)
+        → holds r.place page ≡ true → IsPending stack.new.items r.id page) }
+{
+    let mut sweep = Sweep::start();
+    'places: while let Some(next) = own.next_place(0, PAGE_LIMIT, sweep) {
+        push_place(stack, listed, facts, next.place.id)?;
+        sweep = next.sweep;
     }
     Ok(())
 }
@@ -128,16 +191,13 @@ pub(crate) fn push_space(
     facts: &Facts,
     space: Space,
 ) -> Result<(), AllocError>
-    requires { AllAligned listed.now }
+    requires { AreListed (state_of_facts facts.now) listed.now }
     ensures { OnOk result ((r : Record) → Holds (state_of_facts facts.now) r → IsListed listed.now r
         → same_space space r.space ≡ true → (page : ℕ) → holds r.place page ≡ true
         → IsPending stack.new.items r.id page) }
 {
-    let mut after = None;
-    let owner = Owner::Space(space);
-    'places: while let Some(entry) = listed.next_meeting(owner, 0, PAGE_LIMIT, after) {
-        push_place(stack, facts, entry.id)?;
-        after = Some(entry);
+    match listed.own(Owner::Space(space)) {
+        Some(own) => push_places(stack, own, listed, facts),
+        None => Ok(()),
     }
-    Ok(())
 }

@@ -2,11 +2,12 @@
 
 ghost use Rattle.std.specs.Prelude.{◌≡◌, ◌≤◌, ◌<◌, ℕ, Some, None, IfNone, IfOk, IfSome, OnOk};
 ghost use Rattle.std.specs.Prelude.{length, nat_eq, slice_set, if◌then◌else◌};
+ghost use Rattle.mapdb_rights.specs.Changes.{IsStretch};
 ghost use Rattle.mapdb_rights.specs.OwnChanges.{IsFirstAt, IsLastUpTo, IsNoneUntil, is_later};
 ghost use Rattle.mapdb_rights.specs.OwnChanges.{listed_change, mapped_change, or_change};
 ghost use Rattle.mapdb_rights.specs.OwnChanges.{one_change, with_last};
 
-use super::changes::Change;
+use super::changes::{Change, Stretch};
 use mapdb_fpage::PAGE_LIMIT;
 use smallvec::SmallVec;
 use std::alloc::{AllocError, Global};
@@ -76,6 +77,24 @@ pub(crate) fn few_next(list: &[PageChange], page: u64) -> u64
     end
 }
 
+/// What stands at a page, and how far, where this stands before any change: both are found in one
+/// walk.
+pub(crate) fn few_stretch(list: &[PageChange], first: Change, page: u64) -> Stretch
+    requires { page < PAGE_LIMIT }
+    ensures { IsStretch (listed_change list.now) first page result }
+{
+    let mut found = None;
+    let mut end = PAGE_LIMIT;
+    for next in list {
+        found = later_up_to(found, page, *next);
+        end = nearer(end, page, next.page);
+    }
+    match found {
+        Some((_, change)) => Stretch { change, end },
+        None => Stretch { change: first, end },
+    }
+}
+
 /// Where the first change at a page stands in the list.
 fn spot_of(list: &[PageChange], page: u64) -> Option<usize>
     ensures there { IfSome result (IsFirstAt list.now page) }
@@ -89,6 +108,26 @@ fn spot_of(list: &[PageChange], page: u64) -> Option<usize>
         at += 1;
     }
     None
+}
+
+/// The change of the list at a page, where one stands there.
+pub(crate) fn few_at(list: &[PageChange], page: u64) -> Option<Change>
+    ensures { result ≡ listed_change list.now page }
+{
+    match spot_of(list, page) {
+        Some(at) => Some(list[at].change),
+        None => None,
+    }
+}
+
+/// Takes the changes at a page out of the list.
+pub(crate) fn few_remove(list: &mut SmallVec<PageChange, 2>, page: u64)
+    ensures { (q : ℕ) → listed_change list.new.items q
+        ≡ (if nat_eq page q then None else listed_change list.old.items q) }
+{
+    'copies: while let Some(at) = spot_of(list.as_slice(), page) {
+        list.remove(at);
+    }
 }
 
 /// Puts a change at a place of the list.

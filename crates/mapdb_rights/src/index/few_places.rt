@@ -3,11 +3,11 @@
 ghost use Rattle.std.specs.Prelude.{◌≡◌, IfSome, option_map};
 ghost use Rattle.std.specs.BTreeMap.Range.{is_from_start};
 ghost use Rattle.mapdb_rights.specs.OwnPlaces.{AreAligned, IsAlignedPlace, IsLastWhereSaid};
-ghost use Rattle.mapdb_rights.specs.OwnPlaces.{IsFirstPlaceWhere, IsNextPlace, found_place};
-ghost use Rattle.mapdb_rights.specs.OwnPlaces.{is_beyond};
+ghost use Rattle.mapdb_rights.specs.OwnPlaces.{IsFirstPlaceWhere, IsNextPlace, IsSweptOn};
+ghost use Rattle.mapdb_rights.specs.OwnPlaces.{few_ahead, found_place, is_beyond};
 ghost use Rattle.mapdb_rights.specs.OwnPlaces.{is_next, lesser_place, lesser_where, place_cmp};
 
-use super::own_places::{FoundPlace, OwnPlace};
+use super::own_places::{NextPlace, OwnPlace, Sweep};
 use std::ops::Bound;
 
 /// The lesser of two places, where there is another.
@@ -87,7 +87,7 @@ fn lesser_meeting(
 }
 
 /// The least of the places, above another, that meets the pages from `first` on up to before `end`.
-fn least_meeting(
+pub(crate) fn least_meeting(
     places: &[OwnPlace],
     first: u64,
     end: u64,
@@ -103,19 +103,25 @@ fn least_meeting(
     found
 }
 
-/// The least of the places, above another, that meets the pages from `first` on up to before `end`,
-/// and whether it is the last.
-pub(crate) fn found_meeting(
+/// The next of a few places, in a sweep over those that meet the pages from `first` on up to before
+/// `end`.
+pub(crate) fn next_of_few(
     places: &[OwnPlace],
     first: u64,
     end: u64,
-    after: Option<OwnPlace>,
-) -> Option<FoundPlace>
+    sweep: Sweep,
+) -> Option<NextPlace>
     requires { AreAligned places.now }
-    ensures next { IsNextPlace places.now first end after (option_map found_place result) }
-    ensures last { IfSome result (IsLastWhereSaid places.now first end) }
+    ensures { IsSweptOn places.now (few_ahead places.now) first end sweep result }
 {
-    let place = least_meeting(places, first, end, after)?;
-    let last = least_meeting(places, first, end, Some(place)).is_none();
-    Some(FoundPlace { place, last })
+    'places: for at in sweep.passed..places.len() {
+        let place = places[at];
+        if place.meets(first, end) {
+            return Some(NextPlace {
+                place,
+                sweep: sweep.past(at + 1),
+            });
+        }
+    }
+    None
 }

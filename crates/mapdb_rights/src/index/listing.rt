@@ -1,14 +1,17 @@
-//! Which places are listed: each held record at its place, and at its source.
+//! Which places are listed: each held record at its place, and at its source. The record itself is
+//! held beside them.
 
-ghost use Rattle.std.specs.Prelude.{◌≡◌, ◌⊎◌, true, OnOk, Some};
+ghost use Rattle.std.specs.Prelude.{◌≡◌, ◌⊎◌, true, IfSome, None, OnOk, Some};
 ghost use Rattle.mapdb_facts.specs.Facts.{state_of_facts};
 ghost use Rattle.mapdb_facts.specs.Looking.{Holds};
 ghost use Rattle.mapdb_facts.specs.Merging.{IsNamed};
 ghost use Rattle.mapdb_facts.specs.WellFormed.{IsFormedRecord};
+ghost use Rattle.mapdb_facts.specs.declared.names.RecordId.{RecordId};
 ghost use Rattle.mapdb_facts.specs.declared.operations.Record.{Record};
 ghost use Rattle.mapdb_rights.specs.Following.{AreListed};
 ghost use Rattle.mapdb_rights.specs.Listing.{AllAligned, AreOfHeld, IsAligned, IsListed};
-ghost use Rattle.mapdb_rights.specs.Listing.{is_listed, place_of, source_of};
+ghost use Rattle.mapdb_rights.specs.Listing.{held_record, held_with, is_listed, place_of};
+ghost use Rattle.mapdb_rights.specs.Listing.{source_of};
 ghost use Rattle.mapdb_rights.specs.declared.index.places.Listed.{Listed};
 
 use super::places::{Listed, Owner, Places};
@@ -25,13 +28,14 @@ fn list_place(listed: &mut Places, place: Listed) -> Result<(), AllocError>
         → is_listed listed.new other ≡ true) }
     ensures no_more { OnOk result ((other : Listed) → is_listed listed.new other ≡ true
         → (other ≡ place) ⊎ (is_listed listed.old other ≡ true)) }
+    ensures records { (id : RecordId) → held_record listed.new id ≡ held_record listed.old id }
 {
     listed.insert(place)?;
     Ok(())
 }
 
 /// Lists a record: its source for its parent, which may be held or not, and its place for its
-/// space.
+/// space. It is held under its name.
 pub(crate) fn list_record(listed: &mut Places, mapping: &Record) -> Result<(), AllocError>
     requires formed { IsFormedRecord mapping.now }
     requires aligned { AllAligned listed.old }
@@ -42,6 +46,8 @@ pub(crate) fn list_record(listed: &mut Places, mapping: &Record) -> Result<(), A
     ensures no_more { OnOk result ((other : Listed) → is_listed listed.new other ≡ true
         → (other ≡ place_of mapping.now) ⊎ (other ≡ source_of mapping.now)
         ⊎ (is_listed listed.old other ≡ true)) }
+    ensures records { OnOk result ((id : RecordId) → held_record listed.new id
+        ≡ held_with listed.old mapping.now id) }
 {
     let order = mapping.place.order();
     let source = Listed {
@@ -56,6 +62,7 @@ pub(crate) fn list_record(listed: &mut Places, mapping: &Record) -> Result<(), A
         first: mapping.place.first_page(),
         id: mapping.id,
     };
+    listed.hold(mapping)?;
     list_place(listed, source)?;
     list_place(listed, place)
 }
@@ -71,6 +78,8 @@ pub(crate) fn list_held(listed: &mut Places, facts: &Facts, id: RecordId) -> Res
     ensures kept { OnOk result ((other : Listed) → is_listed listed.old other ≡ true
         → is_listed listed.new other ≡ true) }
     ensures held { OnOk result (AreOfHeld (state_of_facts facts.now) listed.new) }
+    ensures records { OnOk result ((r : Record) → (state_of_facts facts.now).record_at id ≡ Some r
+        → (other : RecordId) → held_record listed.new other ≡ held_with listed.old r other) }
     ensures held_named { IsNamed (state_of_facts facts.now) }
     ensures held_formed { (r : Record) → Holds (state_of_facts facts.now) r → IsFormedRecord r }
 {
@@ -80,14 +89,26 @@ pub(crate) fn list_held(listed: &mut Places, facts: &Facts, id: RecordId) -> Res
     }
 }
 
-/// Lists each held record.
+/// Lists each held record, where none was held before.
 pub(crate) fn list_records(listed: &mut Places, facts: &Facts) -> Result<(), AllocError>
     requires aligned { AllAligned listed.old }
     requires held { AreOfHeld (state_of_facts facts.now) listed.old }
+    requires none { (id : RecordId) → held_record listed.old id ≡ None }
     ensures { OnOk result (AreListed (state_of_facts facts.now) listed.new) }
 {
     for mapping in facts.records() {
         list_record(listed, &mapping)?;
     }
     Ok(())
+}
+
+/// The record that is held under a name, where there is one, as the facts have it: what is kept
+/// here is found at once.
+pub(crate) fn record_under(listed: &Places, facts: &Facts, id: RecordId) -> Option<Record>
+    requires { AreListed (state_of_facts facts.now) listed.now }
+    ensures held { result ≡ (state_of_facts facts.now).record_at id }
+    ensures named { IfSome result (λ r. r.id ≡ id) }
+    ensures formed { IfSome result IsFormedRecord }
+{
+    listed.record(id)
 }

@@ -1,9 +1,10 @@
 //! Many changes of a record, found in their order.
 
 ghost use Rattle.std.specs.Prelude.{◌≤◌, ◌<◌};
+ghost use Rattle.mapdb_rights.specs.Changes.{IsStretch};
 ghost use Rattle.mapdb_rights.specs.OwnChanges.{IsLastUpTo, IsNoneUntil, mapped_change};
 
-use super::changes::Change;
+use super::changes::{Change, Stretch};
 use mapdb_fpage::PAGE_LIMIT;
 use std::collections::BTreeMap;
 use std::ops::Bound;
@@ -31,5 +32,17 @@ pub(crate) fn many_next(map: &BTreeMap<u64, Change>, page: u64) -> u64
     match map.range((Bound::Excluded(&page), Bound::Unbounded)).next() {
         Some((at, _)) => (*at).min(PAGE_LIMIT),
         None => PAGE_LIMIT,
+    }
+}
+
+/// What stands at a page, and how far, where this stands before any change.
+pub(crate) fn many_stretch(map: &BTreeMap<u64, Change>, first: Change, page: u64) -> Stretch
+    requires { page < PAGE_LIMIT }
+    ensures { IsStretch (mapped_change map.now) first page result }
+{
+    let end = many_next(map, page);
+    match many_last(map, page) {
+        Some((_, change)) => Stretch { change, end },
+        None => Stretch { change: first, end },
     }
 }

@@ -4,17 +4,17 @@ ghost use Rattle.mapdb_rights.specs.Standing.{HaveOrders};
 
 use super::orders::Orders;
 use super::own_places::{FoundPlace, OwnPlace};
-use super::place_sets::{Spot, set_above, set_from, start_of};
+use super::place_sets::{Spot, start_of};
+use super::sorted_places::SortedPlaces;
 use mapdb_fpage::{LEAST_ORDER, TOP_ORDER};
 use std::alloc::{AllocError, Global};
-use std::collections::BTreeSet;
 
 /// Many places of an owner, in ascending order, and which orders they have.
 #[derive(Drop)]
 pub struct ManyPlaces {
-    places: BTreeSet<OwnPlace>,
+    places: SortedPlaces,
     orders: Orders,
-    ghost ordered: { HaveOrders places.keys orders },
+    ghost ordered: { HaveOrders places orders },
 }
 
 impl ManyPlaces {
@@ -31,61 +31,60 @@ impl ManyPlaces {
 
     /// No places. It takes no memory.
     pub(crate) fn new(alloc: Global) -> ManyPlaces
-        ensures { result.places.keys ≡ [] }
+        ensures { result.places ≡ [] }
     {
         ManyPlaces {
-            places: BTreeSet::new(alloc),
+            places: SortedPlaces::new(alloc),
             orders: Orders::NONE,
         }
     }
 
     /// Puts one place more. An error where memory ran out.
-    pub(crate) fn insert(&mut self, place: OwnPlace) -> Result<(), AllocError>
-        ensures { OnOk result ((k : OwnPlace) → stands self.new.places.keys k
-            ≡ (is_at (place_cmp place) k || stands self.old.places.keys k)) }
+    pub(crate) fn insert(&mut self, alloc: Global, place: OwnPlace) -> Result<(), AllocError>
+        ensures { OnOk result ((k : OwnPlace) → stands self.new.places k
+            ≡ (is_at (place_cmp place) k || stands self.old.places k)) }
     {
         self.orders.add(place.order);
-        self.places.insert(place)?;
-        Ok(())
+        self.places.insert(alloc, place)
     }
 
     /// The least place from one on.
     pub(crate) fn first_from(&self, from: OwnPlace) -> Option<OwnPlace>
-        ensures { IsFirstPlaceWhere (is_from_start place_cmp (Included from)) self.now.places.keys
+        ensures { IsFirstPlaceWhere (is_from_start place_cmp (Included from)) self.now.places
             result }
     {
-        let spot = set_from(&self.places, from)?;
+        let spot = self.places.first_from(from)?;
         Some(spot.place)
     }
 
     /// The least place above one.
     pub(crate) fn first_above(&self, after: OwnPlace) -> Option<OwnPlace>
-        ensures { IsFirstPlaceWhere (is_from_start place_cmp (Excluded after)) self.now.places.keys
+        ensures { IsFirstPlaceWhere (is_from_start place_cmp (Excluded after)) self.now.places
             result }
     {
-        let spot = set_above(&self.places, after)?;
+        let spot = self.places.first_above(after)?;
         Some(spot.place)
     }
 
     /// The first place, of an order from one on, that may hold a page or come behind it.
     fn reach(&self, order: u8, page: u64) -> Option<Spot>
-        requires { AreAligned self.now.places.keys }
-        ensures reached { (end : ℕ) → HasReachedFrom self.now.places.keys order page end
+        requires { AreAligned self.now.places }
+        ensures reached { (end : ℕ) → HasReachedFrom self.now.places order page end
             (option_map spot_place result) }
-        ensures behind { IfSome result (IsBehind self.now.places.keys) }
+        ensures behind { IfSome result (IsBehind self.now.places) }
     {
         match self.orders.next_from(order.max(LEAST_ORDER)) {
-            Some(next) if next <= TOP_ORDER => set_from(&self.places, start_of(next, page)),
+            Some(next) if next <= TOP_ORDER => self.places.first_from(start_of(next, page)),
             _ => None,
         }
     }
 
     /// The first place above another, where there is one, that may meet the pages.
     fn begin(&self, first: u64, end: u64, after: Option<OwnPlace>) -> Option<Spot>
-        requires { AreAligned self.now.places.keys }
-        ensures reached { HasReached self.now.places.keys first end after
+        requires { AreAligned self.now.places }
+        ensures reached { HasReached self.now.places first end after
             (option_map spot_place result) }
-        ensures behind { IfSome result (IsBehind self.now.places.keys) }
+        ensures behind { IfSome result (IsBehind self.now.places) }
     {
         let Some(place) = after else {
             return self.reach(0, first);
@@ -93,34 +92,34 @@ impl ManyPlaces {
         if place.first >= end {
             return self.reach(place.order.saturating_add(1), first);
         }
-        set_above(&self.places, place)
+        self.places.first_above(place)
     }
 
     /// What comes next that may meet the pages, behind a place that does not: from its order's
     /// place that holds the first page on, or of the orders above.
     fn pass(&self, place: OwnPlace, first: u64, end: u64) -> Option<Spot>
-        requires aligned { AreAligned self.now.places.keys }
-        requires held { stands self.now.places.keys place ≡ true }
+        requires aligned { AreAligned self.now.places }
+        requires held { stands self.now.places place ≡ true }
         requires pages { first < end }
         requires apart { own_meets place first end ≡ false }
-        ensures reached { HasReached self.now.places.keys first end (Some place)
+        ensures reached { HasReached self.now.places first end (Some place)
             (option_map spot_place result) }
         ensures fewer { orders_ahead first (option_map spot_place result)
             < orders_ahead first (Some place) }
-        ensures behind { IfSome result (IsBehind self.now.places.keys) }
+        ensures behind { IfSome result (IsBehind self.now.places) }
     {
         if place.first >= end {
             return self.reach(place.order + 1, first);
         }
-        set_from(&self.places, start_of(place.order, first))
+        self.places.first_from(start_of(place.order, first))
     }
 
     /// Whether no place above a spot's can begin before the end of the pages.
     fn is_last(&self, spot: Spot, first: u64, end: u64) -> bool
-        requires aligned { AreAligned self.now.places.keys }
-        requires behind { IsBehind self.now.places.keys spot }
+        requires aligned { AreAligned self.now.places }
+        requires behind { IsBehind self.now.places spot }
         ensures { result ≡ true
-            → IsNextPlace self.now.places.keys first end (Some spot.place) None }
+            → IsNextPlace self.now.places first end (Some spot.place) None }
     {
         let order = spot.place.order;
         match spot.next {
@@ -137,10 +136,10 @@ impl ManyPlaces {
         end: u64,
         after: Option<OwnPlace>,
     ) -> Option<FoundPlace>
-        requires { AreAligned self.now.places.keys }
-        ensures next { IsNextPlace self.now.places.keys first end after
+        requires { AreAligned self.now.places }
+        ensures next { IsNextPlace self.now.places first end after
             (option_map found_place result) }
-        ensures last { IfSome result (IsLastWhereSaid self.now.places.keys first end) }
+        ensures last { IfSome result (IsLastWhereSaid self.now.places first end) }
     {
         if first >= end {
             return None;

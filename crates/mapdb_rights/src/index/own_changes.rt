@@ -1,12 +1,16 @@
 //! The changes of one record: a few in a list, many in a map.
 
-ghost use Rattle.std.specs.Prelude.{◌≡◌, ◌≤◌, ◌<◌, ℕ, [], Some, None, IfOk, IfSome, OnOk, nat_eq};
-ghost use Rattle.std.specs.Prelude.{if◌then◌else◌};
+ghost use Rattle.std.specs.Prelude.{◌≡◌, ◌≤◌, ◌<◌, ℕ, [], Some, None, IfOk, IfSome, OnOk};
+ghost use Rattle.std.specs.Prelude.{nat_eq, if◌then◌else◌};
+ghost use Rattle.std.specs.Option.{unwrap_or};
+ghost use Rattle.mapdb_rights.specs.Changes.{IsRewritten, IsStretch, left_before};
 ghost use Rattle.mapdb_rights.specs.OwnChanges.{IsLastUpTo, IsNoneUntil, own_change};
 
-use super::changes::Change;
-use super::few_changes::{PageChange, few_last, few_next, few_put, map_of};
-use super::many_changes::{many_last, many_next};
+use super::changes::{Change, Stretch};
+use super::few_changes::{
+    PageChange, few_at, few_last, few_next, few_put, few_remove, few_stretch, map_of,
+};
+use super::many_changes::{many_last, many_next, many_stretch};
 use crate::limits::FEW_CHANGES;
 use mapdb_fpage::PAGE_LIMIT;
 use smallvec::SmallVec;
@@ -53,6 +57,40 @@ impl OwnChanges {
         }
     }
 
+    /// The change at a page, where one stands there.
+    fn at(&self, page: u64) -> Option<Change>
+        ensures { result ≡ own_change self.now page }
+    {
+        match self {
+            OwnChanges::Few(list) => few_at(list.as_slice(), page),
+            OwnChanges::Many(map) => map.get(&page).copied(),
+        }
+    }
+
+    /// What stands in front of a page, where this stands before any change.
+    fn before(&self, first: Change, page: u64) -> Change
+        ensures { result ≡ left_before (own_change self.now) first page }
+    {
+        if page == 0 {
+            return first;
+        }
+        match self.last(page - 1) {
+            Some((_, change)) => change,
+            None => first,
+        }
+    }
+
+    /// What stands at a page, and how far, where this stands before any change.
+    pub(crate) fn stretch(&self, first: Change, page: u64) -> Stretch
+        requires { page < PAGE_LIMIT }
+        ensures { IsStretch (own_change self.now) first page result }
+    {
+        match self {
+            OwnChanges::Few(list) => few_stretch(list.as_slice(), first, page),
+            OwnChanges::Many(map) => many_stretch(map, first, page),
+        }
+    }
+
     /// The same changes as a map, where they are too many for a list. An error where memory ran
     /// out.
     fn outgrown(&self, alloc: Global) -> Result<Option<BTreeMap<u64, Change>>, AllocError>
@@ -96,11 +134,95 @@ impl OwnChanges {
     }
 
     /// Puts a change, in place of one that stands at its page. An error where memory ran out.
-    pub(crate) fn put(&mut self, alloc: Global, page: u64, change: Change) -> Result<(), AllocError>
+    fn put(&mut self, alloc: Global, page: u64, change: Change) -> Result<(), AllocError>
         ensures { OnOk result ((q : ℕ) → own_change self.new q
             ≡ (if nat_eq page q then Some change else own_change self.old q)) }
     {
         self.widen(alloc)?;
         self.put_there(page, change)
+    }
+
+    /// Takes the change at a page away, if one stands there.
+    fn remove(&mut self, page: u64)
+        ensures { (q : ℕ) → own_change self.new q
+            ≡ (if nat_eq page q then None else own_change self.old q) }
+    {
+        match self {
+            OwnChanges::Few(list) => few_remove(list, page),
+            OwnChanges::Many(map) => {
+                map.remove(&page);
+            }
+        }
+    }
+
+    /// At the end of pages that get this change, what follows stays as it was. A change there that
+    /// says no more than this one is not kept. An error where memory ran out.
+    fn write_end(
+        &mut self,
+        alloc: Global,
+        end: u64,
+        was: Change,
+        change: Change,
+    ) -> Result<(), AllocError>
+        ensures there { OnOk result (end < PAGE_LIMIT
+            → unwrap_or (own_change self.new end) change
+            ≡ unwrap_or (own_change self.old end) was) }
+        ensures once { OnOk result (end < PAGE_LIMIT → own_change self.old end ≡ Some change
+            → own_change self.new end ≡ None) }
+        ensures elsewhere { OnOk result ((q : ℕ) → (end ≡ q → ⊥)
+            → own_change self.new q ≡ own_change self.old q) }
+    {
+        if end >= PAGE_LIMIT {
+            return Ok(());
+        }
+        let Some(next) = self.at(end) else {
+            return self.put(alloc, end, was);
+        };
+        if next.is(change) {
+            self.remove(end);
+        }
+        Ok(())
+    }
+
+    /// Puts a change, if it is not what stands in front of its page, in place of one that stands
+    /// there. An error where memory ran out.
+    fn write_first(
+        &mut self,
+        alloc: Global,
+        before: Change,
+        page: u64,
+        change: Change,
+    ) -> Result<(), AllocError>
+        ensures there { OnOk result (unwrap_or (own_change self.new page)
+            (left_before (own_change self.old) before page) ≡ change) }
+        ensures once { OnOk result (change ≡ left_before (own_change self.old) before page
+            → own_change self.new page ≡ None) }
+        ensures elsewhere { OnOk result ((q : ℕ) → (page ≡ q → ⊥)
+            → own_change self.new q ≡ own_change self.old q) }
+    {
+        if change.is(self.before(before, page)) {
+            self.remove(page);
+            return Ok(());
+        }
+        self.put(alloc, page, change)
+    }
+
+    /// Gives a change to pages over which another stood, where this stands before any change. An
+    /// error where memory ran out.
+    pub(crate) fn write(
+        &mut self,
+        alloc: Global,
+        before: Change,
+        first: u64,
+        end: u64,
+        was: Change,
+        change: Change,
+    ) -> Result<(), AllocError>
+        requires { first < end }
+        ensures { OnOk result (IsRewritten (own_change self.old) before first end was change
+            (own_change self.new)) }
+    {
+        self.write_end(alloc, end, was, change)?;
+        self.write_first(alloc, before, first, change)
     }
 }

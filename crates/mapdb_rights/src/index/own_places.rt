@@ -8,11 +8,11 @@ ghost use Rattle.std.specs.Ordering.{is_lt};
 ghost use Rattle.std.specs.declared.ops.Bound.TheVariants.{Excluded, Included};
 ghost use Rattle.mapdb_rights.specs.OwnPlaces.{AreAligned, IsAlignedPlace, IsLastWhereSaid};
 ghost use Rattle.mapdb_rights.specs.OwnPlaces.{IsFirstPlaceWhere, IsNextPlace, found_place};
-ghost use Rattle.mapdb_rights.specs.OwnPlaces.{own_list};
+ghost use Rattle.mapdb_rights.specs.OwnPlaces.{IsSweptOn, ahead, at_start, many_ahead, own_list};
 ghost use Rattle.mapdb_rights.specs.OwnPlaces.{own_meets, place_cmp, stands};
 ghost use Rattle.mapdb_rights.specs.declared.index.own_places.OwnPlace.{OwnPlace};
 
-use super::few_places::{found_meeting, least_inside};
+use super::few_places::{least_inside, least_meeting, next_of_few};
 use super::many_places::ManyPlaces;
 use crate::limits::FEW_PLACES;
 use mapdb_facts::RecordId;
@@ -70,6 +70,79 @@ pub struct FoundPlace {
     pub last: bool,
 }
 
+/// How far a sweep over the places of an owner has come.
+#[derive(Clone, Copy, Debug)]
+pub struct Sweep {
+    /// How many of a few places were looked at.
+    pub passed: usize,
+    /// The last of many places that was found.
+    pub after: Option<OwnPlace>,
+    /// Whether none of many is left behind it.
+    pub over: bool,
+}
+
+impl Sweep {
+    /// Before all places.
+    pub(crate) fn start() -> Sweep
+        ensures { result ≡ at_start }
+    {
+        Sweep {
+            passed: 0,
+            after: None,
+            over: false,
+        }
+    }
+
+    /// Past so many of a few places.
+    pub(crate) fn past(self, passed: usize) -> Sweep
+        ensures { result ≡ record self { passed = passed } }
+    {
+        Sweep { passed, ..self }
+    }
+}
+
+/// A place that a sweep found, and how far it has come with it.
+#[derive(Clone, Copy, Debug)]
+pub struct NextPlace {
+    /// The place.
+    pub place: OwnPlace,
+    /// How far the sweep has come.
+    pub sweep: Sweep,
+}
+
+/// The next of many places, in a sweep over those that meet the pages from `first` on up to before
+/// `end`.
+fn next_of_many(many: &ManyPlaces, first: u64, end: u64, sweep: Sweep) -> Option<NextPlace>
+    requires { AreAligned many.now.places }
+    ensures { IsSweptOn many.now.places (many_ahead many.now.places) first end sweep
+        result }
+{
+    if sweep.over {
+        return None;
+    }
+    match many.next_meeting(first, end, sweep.after) {
+        Some(found) => Some(NextPlace {
+            place: found.place,
+            sweep: Sweep {
+                passed: sweep.passed,
+                after: Some(found.place),
+                over: found.last,
+            },
+        }),
+        None => None,
+    }
+}
+
+/// The place that was found, where there is one.
+fn place_of(found: Option<FoundPlace>) -> Option<OwnPlace>
+    ensures { result ≡ option_map found_place found }
+{
+    match found {
+        Some(found) => Some(found.place),
+        None => None,
+    }
+}
+
 /// All places of an owner.
 #[derive(Drop)]
 pub enum OwnPlaces {
@@ -82,11 +155,11 @@ pub enum OwnPlaces {
 /// These places as many.
 fn many_of(alloc: Global, places: &[OwnPlace]) -> Result<ManyPlaces, AllocError>
     ensures { IfOk result (λ many. (k : OwnPlace)
-        → stands many.places.keys k ≡ stands places.now k) }
+        → stands many.places k ≡ stands places.now k) }
 {
     let mut many = ManyPlaces::new(alloc);
     for place in places {
-        many.insert(*place)?;
+        many.insert(alloc, *place)?;
     }
     Ok(many)
 }
@@ -127,15 +200,24 @@ impl OwnPlaces {
         first: u64,
         end: u64,
         after: Option<OwnPlace>,
-    ) -> Option<FoundPlace>
+    ) -> Option<OwnPlace>
         requires { AreAligned (own_list self.now) }
-        ensures next { IsNextPlace (own_list self.now) first end after
-            (option_map found_place result) }
-        ensures last { IfSome result (IsLastWhereSaid (own_list self.now) first end) }
+        ensures { IsNextPlace (own_list self.now) first end after result }
     {
         match self {
-            OwnPlaces::Few(list) => found_meeting(list.as_slice(), first, end, after),
-            OwnPlaces::Many(many) => many.next_meeting(first, end, after),
+            OwnPlaces::Few(list) => least_meeting(list.as_slice(), first, end, after),
+            OwnPlaces::Many(many) => place_of(many.next_meeting(first, end, after)),
+        }
+    }
+
+    /// The next place of a sweep over those that meet the pages from `first` on up to before `end`.
+    pub(crate) fn next_place(&self, first: u64, end: u64, sweep: Sweep) -> Option<NextPlace>
+        requires { AreAligned (own_list self.now) }
+        ensures { IsSweptOn (own_list self.now) (ahead self.now) first end sweep result }
+    {
+        match self {
+            OwnPlaces::Few(list) => next_of_few(list.as_slice(), first, end, sweep),
+            OwnPlaces::Many(many) => next_of_many(many, first, end, sweep),
         }
     }
 
@@ -143,7 +225,7 @@ impl OwnPlaces {
     /// out.
     fn outgrown(&self, alloc: Global) -> Result<Option<ManyPlaces>, AllocError>
         ensures { IfOk result (λ grown. IfSome grown (λ many. (k : OwnPlace)
-            → stands many.places.keys k ≡ stands (own_list self.now) k)) }
+            → stands many.places k ≡ stands (own_list self.now) k)) }
     {
         match self {
             OwnPlaces::Few(list) if list.len() >= FEW_PLACES => {
@@ -167,7 +249,7 @@ impl OwnPlaces {
     }
 
     /// Puts one place more where the places are kept now. An error where memory ran out.
-    fn put(&mut self, place: OwnPlace) -> Result<(), AllocError>
+    fn put(&mut self, alloc: Global, place: OwnPlace) -> Result<(), AllocError>
         ensures { OnOk result ((k : OwnPlace) → stands (own_list self.new) k
             ≡ (is_at (place_cmp place) k || stands (own_list self.old) k)) }
     {
@@ -175,7 +257,7 @@ impl OwnPlaces {
             OwnPlaces::Few(list) => {
                 list.push(place)?;
             }
-            OwnPlaces::Many(many) => many.insert(place)?,
+            OwnPlaces::Many(many) => many.insert(alloc, place)?,
         }
         Ok(())
     }
@@ -186,6 +268,6 @@ impl OwnPlaces {
             ≡ (is_at (place_cmp place) k || stands (own_list self.old) k)) }
     {
         self.widen(alloc)?;
-        self.put(place)
+        self.put(alloc, place)
     }
 }

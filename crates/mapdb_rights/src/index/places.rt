@@ -1,26 +1,45 @@
 //! The places of records, by owner: a space has those of its records, a record those that its
-//! children's pages come from.
+//! children's pages come from. Beside them the records themselves, by name.
 
-ghost use Rattle.std.specs.Prelude.{◌≡◌, ◌||◌, false, IfSome, OnOk, option_map};
+ghost use Rattle.std.specs.Prelude.{◌≡◌, ◌||◌, false, IfSome, None, OnOk, option_map};
 ghost use Rattle.std.specs.BTreeMap.{is_at};
+ghost use Rattle.std.specs.Option.{option_copied};
 ghost use Rattle.std.specs.declared.ops.Bound.TheVariants.{Excluded, Included};
-ghost use Rattle.mapdb_rights.specs.Listing.{AllAligned, IsFirstInside, IsLastEntryWhereSaid};
-ghost use Rattle.mapdb_rights.specs.Listing.{IsNextMeeting, found_entry, found_for, is_among};
-ghost use Rattle.mapdb_rights.specs.Listing.{is_listed, listed_cmp, listed_for, own_place};
+ghost use Rattle.mapdb_facts.specs.declared.names.RecordId.{RecordId};
+ghost use Rattle.mapdb_rights.specs.Listing.{AllAligned, IsFirstInside, IsNextMeeting, is_among};
+ghost use Rattle.mapdb_rights.specs.Listing.{held_record, held_with, is_listed, listed_cmp};
+ghost use Rattle.mapdb_rights.specs.Listing.{listed_for, own_place};
+ghost use Rattle.mapdb_rights.specs.Owners.{owner_writes, owners_alike};
+ghost use Rattle.mapdb_rights.specs.Listing.{places_in, owner_places};
 ghost use Rattle.mapdb_rights.specs.declared.index.places.Listed.{Listed};
 
-use super::own_places::{FoundPlace, OwnPlace, OwnPlaces};
-use mapdb_facts::{RecordId, Space};
+use super::own_places::{OwnPlace, OwnPlaces};
+use mapdb_facts::{Record, RecordId, Space};
 use std::alloc::{AllocError, Global};
 use std::collections::HashMap;
+use std::hash::{Hash, Hasher};
 
 /// Who has a place listed.
-#[derive(Clone, Copy, Debug, PartialEq, Eq, Hash)]
+#[derive(Clone, Copy, Debug, PartialEq, Eq)]
 pub enum Owner {
     /// A record, the sources of its children.
     Record(RecordId),
     /// A space, the places of its records.
     Space(Space),
+}
+
+/// A record and a space are hashed alike: there are many of the one, and few of the other.
+impl Hash for Owner {
+    ghost hash_input = { owner_writes };
+
+    ghost respects_eq = { owners_alike };
+
+    fn hash<H: Hasher>(&self, state: &mut H) {
+        match self {
+            Owner::Record(id) => id.hash(state),
+            Owner::Space(space) => space.hash(state),
+        }
+    }
 }
 
 /// A place of an owner, and the record that stands for it.
@@ -34,15 +53,6 @@ pub struct Listed {
     pub first: u64,
     /// The record that stands for it.
     pub id: RecordId,
-}
-
-/// An entry that was found, and whether it is known to be the last that is looked for.
-#[derive(Clone, Copy, Debug)]
-pub struct FoundEntry {
-    /// The entry.
-    pub entry: Listed,
-    /// Whether none that is looked for comes behind it; where it is not known, it says no.
-    pub last: bool,
 }
 
 impl Listed {
@@ -83,24 +93,6 @@ fn listed_for(owner: Owner, place: Option<OwnPlace>) -> Option<Listed>
     }
 }
 
-/// A place that was found as the owner's, where there is one.
-fn found_for(owner: Owner, found: Option<FoundPlace>) -> Option<FoundEntry>
-    ensures { result ≡ option_map (found_for owner) found }
-{
-    match found {
-        Some(found) => Some(FoundEntry {
-            entry: Listed {
-                owner,
-                order: found.place.order,
-                first: found.place.first,
-                id: found.place.id,
-            },
-            last: found.last,
-        }),
-        None => None,
-    }
-}
-
 /// Puts an entry among the places of its owner. An error where memory ran out.
 fn put(
     owners: &mut HashMap<Owner, OwnPlaces>,
@@ -119,30 +111,59 @@ fn put(
     Ok(())
 }
 
-/// The places of all owners, each owner's by themselves.
+/// The places of all owners, each owner's by themselves, and the records whose they are: a step
+/// from a place to its record looks here, and not in the facts.
 #[derive(Drop)]
 pub struct Places {
     own: HashMap<Owner, OwnPlaces>,
+    held: HashMap<RecordId, Record>,
     alloc: Global,
 }
 
 impl Places {
-    /// No places. It takes no memory.
+    /// No places and no records. It takes no memory.
     pub(crate) fn new(alloc: Global) -> Places
-        ensures { (e : Listed) → is_listed result e ≡ false }
+        ensures no_place { (e : Listed) → is_listed result e ≡ false }
+        ensures no_record { (id : RecordId) → held_record result id ≡ None }
     {
         Places {
             own: HashMap::new(alloc),
+            held: HashMap::new(alloc),
             alloc,
         }
     }
 
     /// Lists one entry more. An error where memory ran out.
     pub(crate) fn insert(&mut self, entry: Listed) -> Result<(), AllocError>
-        ensures { OnOk result ((e : Listed) → is_listed self.new e
+        ensures listed { OnOk result ((e : Listed) → is_listed self.new e
             ≡ (is_at (listed_cmp entry) e || is_listed self.old e)) }
+        ensures records { (id : RecordId) → held_record self.new id ≡ held_record self.old id }
     {
         put(&mut self.own, self.alloc, entry)
+    }
+
+    /// Holds one record more, under its name. An error where memory ran out.
+    pub(crate) fn hold(&mut self, mapping: &Record) -> Result<(), AllocError>
+        ensures records { OnOk result ((id : RecordId) → held_record self.new id
+            ≡ held_with self.old mapping.now id) }
+        ensures listed { (e : Listed) → is_listed self.new e ≡ is_listed self.old e }
+    {
+        self.held.insert(mapping.id, *mapping)?;
+        Ok(())
+    }
+
+    /// The record that is held under a name, where there is one.
+    pub(crate) fn record(&self, id: RecordId) -> Option<Record>
+        ensures { result ≡ held_record self.now id }
+    {
+        self.held.get(&id).copied()
+    }
+
+    /// The places of an owner, where it has some: a walk over them looks them up once.
+    pub(crate) fn own(&self, owner: Owner) -> Option<&OwnPlaces>
+        ensures { places_in (option_copied result) ≡ owner_places self.now owner }
+    {
+        self.own.get(&owner)
     }
 
     /// The least entry of its owner from one on.
@@ -166,27 +187,6 @@ impl Places {
     }
 
     /// The least entry of the owner, above another, that meets the pages from `first` on up to
-    /// before `end`, and whether it is the last.
-    pub(crate) fn next_found(
-        &self,
-        owner: Owner,
-        first: u64,
-        end: u64,
-        after: Option<Listed>,
-    ) -> Option<FoundEntry>
-        requires aligned { AllAligned self.now }
-        requires owned { IfSome after (λ e. e.owner ≡ owner) }
-        ensures next { IsNextMeeting self.now owner first end after
-            (option_map found_entry result) }
-        ensures last { IfSome result (IsLastEntryWhereSaid self.now owner first end) }
-    {
-        match self.own.get(&owner) {
-            Some(own) => found_for(owner, own.next_meeting(first, end, place_of(after))),
-            None => None,
-        }
-    }
-
-    /// The least entry of the owner, above another, that meets the pages from `first` on up to
     /// before `end`.
     pub(crate) fn next_meeting(
         &self,
@@ -199,8 +199,8 @@ impl Places {
         requires owned { IfSome after (λ e. e.owner ≡ owner) }
         ensures { IsNextMeeting self.now owner first end after result }
     {
-        match self.next_found(owner, first, end, after) {
-            Some(found) => Some(found.entry),
+        match self.own.get(&owner) {
+            Some(own) => listed_for(owner, own.next_meeting(first, end, place_of(after))),
             None => None,
         }
     }

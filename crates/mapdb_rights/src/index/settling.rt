@@ -3,27 +3,27 @@
 
 ghost use Rattle.std.specs.Prelude.{◌≡◌, ◌≤◌, ◌<◌, ◌+◌, ◌-◌, ◌*◌, ◌++◌, ◌∷◌, ◌⊎◌, [], ℕ, None};
 ghost use Rattle.std.specs.Prelude.{false, true, OnOk};
-ghost use Rattle.mapdb_fpage.specs.RightSets.{is_empty};
 ghost use Rattle.mapdb_facts.specs.Facts.{state_of_facts};
 ghost use Rattle.mapdb_facts.specs.declared.names.RecordId.{RecordId};
-ghost use Rattle.mapdb_rights.specs.Caching.{AreRights, IsSettled, covers, rights_from};
-ghost use Rattle.mapdb_rights.specs.Changes.{AreFrames, HasFrame, cached_in, change_at};
+ghost use Rattle.mapdb_rights.specs.Caching.{AreRights, IsSettled, covers};
+ghost use Rattle.mapdb_rights.specs.Changes.{AreFrames, cached_in};
 ghost use Rattle.mapdb_rights.specs.Following.{AreListed};
 ghost use Rattle.mapdb_rights.specs.Listing.{listed_len};
 ghost use Rattle.mapdb_rights.specs.Pending.{AreSettledBut, IsPending, base_of, share, weight};
 ghost use Rattle.mapdb_rights.specs.Pending.{worth};
+ghost use Rattle.mapdb_rights.specs.Stepping.{IsStep};
 
-use super::changes::{AllChanges, cached_at, write};
+use super::changes::{AllChanges, write};
 use super::children::push_children;
 use super::places::Places;
 use super::stale::Stale;
-use super::stepping::{change_from, steady_end};
+use super::stepping::{Step, step_at};
 use mapdb_facts::Facts;
 use mapdb_fpage::PAGE_LIMIT;
 use std::alloc::AllocError;
 
-/// The rights of pages over which all is steady are taken anew from the parent's. Where they are
-/// others than before, the pages of children that come from there join what is stale.
+/// Pages over which all is steady get what follows from the parent. Where the rights are others
+/// than before, the pages of children that come from there join what is stale.
 fn settle_run(
     changes: &mut AllChanges,
     stack: &mut Vec<Stale>,
@@ -31,25 +31,14 @@ fn settle_run(
     facts: &Facts,
     stale: Stale,
     end: u64,
+    next: Step,
 ) -> Result<(), AllocError>
     requires listed { AreListed (state_of_facts facts.now) listed.now }
-    requires some { stale.first < end }
-    requires limit { end ≤ PAGE_LIMIT }
-    requires one { (q : ℕ) → stale.first < q → q < end
-        → change_at changes.old.own.entries stale.id q ≡ None }
-    requires kept { (q : ℕ) → stale.first ≤ q → q < end
-        → cached_in changes.old.own.entries stale.id q
-        ≡ cached_in changes.old.own.entries stale.id stale.first }
-    requires same { (q : ℕ) → stale.first ≤ q → q < end
-        → rights_from (cached_in changes.old.own.entries) (state_of_facts facts.now) stale.id q
-        ≡ rights_from (cached_in changes.old.own.entries) (state_of_facts facts.now)
-        stale.id stale.first }
     requires frames { AreFrames (state_of_facts facts.now) changes.old.own.entries }
-    requires frames_on { is_empty (rights_from (cached_in changes.old.own.entries)
-        (state_of_facts facts.now) stale.id stale.first)
-        ≡ false → (shift : ℕ) → HasFrame (state_of_facts facts.now) stale.id stale.first shift
-        → (q : ℕ) → stale.first ≤ q → q < end
-        → HasFrame (state_of_facts facts.now) stale.id q shift }
+    requires step { IsStep (state_of_facts facts.now) changes.old.own.entries
+        stale.id stale.first next }
+    requires some { stale.first < end }
+    requires within { end ≤ next.end }
     ensures frames { OnOk result (AreFrames (state_of_facts facts.now) changes.new.own.entries) }
     ensures settled { OnOk result ((id : RecordId) (page : ℕ)
         → IsSettled (state_of_facts facts.now) (cached_in changes.old.own.entries) id page
@@ -61,11 +50,10 @@ fn settle_run(
     ensures weight { OnOk result ((base : ℕ) → 0 < base → weight base stack.new.items
         ≤ weight base stack.old.items + listed_len listed.now * share base (stale.id.number + 1)) }
 {
-    let change = change_from(changes, facts, stale.id, stale.first);
-    if change.rights == cached_at(changes, stale.id, stale.first) {
+    if next.change.rights == next.old.rights {
         return Ok(());
     }
-    write(changes, stale.id, stale.first, end, change)?;
+    write(changes, stale.id, stale.first, end, next.old, next.change)?;
     push_children(stack, listed, facts, stale.id, stale.first, end)
 }
 
@@ -110,11 +98,10 @@ fn settle_next(
     if stale.first >= stale.end {
         return Ok(());
     }
-    let end = stale
-        .end
-        .min(steady_end(changes, facts, stale.id, stale.first));
+    let next = step_at(changes, listed, facts, stale.id, stale.first);
+    let end = stale.end.min(next.end);
     keep_rest(stack, stale, end)?;
-    settle_run(changes, stack, listed, facts, stale, end)
+    settle_run(changes, stack, listed, facts, stale, end, next)
 }
 
 /// Settles what is stale, until nothing is.

@@ -1,21 +1,55 @@
 //! The records of an owner that share pages with a place, found among what is listed.
 
 ghost use Rattle.std.specs.Prelude.{◌≡◌, true, All, IfOk, filter};
-ghost use Rattle.std.specs.BTreeSet.{IsOrdered, contains};
 ghost use Rattle.std.specs.List.{filter_map};
+ghost use Rattle.std.specs.List.Sorted.{IsStrictlySortedBy};
 ghost use Rattle.mapdb_facts.specs.Facts.{records_of_facts, state_of_facts};
 ghost use Rattle.mapdb_facts.specs.Kept.{id_cmp};
 ghost use Rattle.mapdb_facts.specs.WellFormed.{IsFormedRecord};
+ghost use Rattle.mapdb_facts.specs.declared.names.RecordId.{RecordId};
 ghost use Rattle.mapdb_rights.specs.Following.{AreListed};
 ghost use Rattle.mapdb_rights.specs.Listing.{AllAligned, is_listed, meets};
-ghost use Rattle.mapdb_rights.specs.Meeting.{record_if, shares_part};
+ghost use Rattle.mapdb_rights.specs.Meeting.{is_named, record_if, shares_part};
+ghost use Rattle.mapdb_rights.specs.OwnPlaces.{AreAligned, own_list, own_meets, stands};
+ghost use Rattle.mapdb_rights.specs.declared.index.own_places.OwnPlace.{OwnPlace};
 ghost use Rattle.mapdb_rights.specs.declared.index.places.Listed.{Listed};
 
+use super::listing::record_under;
+use super::own_places::{OwnPlaces, Sweep};
 use super::places::{Owner, Places};
 use mapdb_facts::{Facts, Record, RecordId};
 use mapdb_fpage::Fpage;
 use std::alloc::{AllocError, Global};
-use std::collections::BTreeSet;
+
+/// The names of all places that meet the pages from `first` on up to before `end`, as they come.
+fn names_of(
+    alloc: Global,
+    own: &OwnPlaces,
+    first: u64,
+    end: u64,
+) -> Result<Vec<RecordId>, AllocError>
+    requires { AreAligned (own_list own.now) }
+    ensures { IfOk result (λ names. (p : OwnPlace) → stands (own_list own.now) p ≡ true
+        → own_meets p first end ≡ true → is_named names.items p.id ≡ true) }
+{
+    let mut names = Vec::new(alloc);
+    let mut sweep = Sweep::start();
+    'places: while let Some(next) = own.next_place(first, end, sweep) {
+        names.push(next.place.id)?;
+        sweep = next.sweep;
+    }
+    Ok(names)
+}
+
+/// Puts names in ascending order, each once.
+fn put_in_order(names: &mut Vec<RecordId>)
+    ensures ordered { IsStrictlySortedBy id_cmp names.new.items }
+    ensures kept { (id : RecordId) → is_named names.old.items id ≡ true
+        → is_named names.new.items id ≡ true }
+{
+    names.sort_unstable();
+    names.dedup();
+}
 
 /// The names of all entries of the owner that meet the pages from `first` on up to before `end`.
 fn names_meeting(
@@ -24,19 +58,15 @@ fn names_meeting(
     owner: Owner,
     first: u64,
     end: u64,
-) -> Result<BTreeSet<RecordId>, AllocError>
+) -> Result<Vec<RecordId>, AllocError>
     requires { AllAligned listed.now }
-    ensures names { IfOk result (λ names. (e : Listed) → is_listed listed.now e ≡ true
-        → e.owner ≡ owner → meets e first end ≡ true → contains id_cmp names e.id ≡ true) }
-    ensures ordered { IfOk result (IsOrdered id_cmp) }
+    ensures { IfOk result (λ names. (e : Listed) → is_listed listed.now e ≡ true
+        → e.owner ≡ owner → meets e first end ≡ true → is_named names.items e.id ≡ true) }
 {
-    let mut names = BTreeSet::new(alloc);
-    let mut after = None;
-    'entries: while let Some(entry) = listed.next_meeting(owner, first, end, after) {
-        names.insert(entry.id)?;
-        after = Some(entry);
+    match listed.own(owner) {
+        Some(own) => names_of(alloc, own, first, end),
+        None => Ok(Vec::new(alloc)),
     }
-    Ok(names)
 }
 
 /// Whether the record is the owner's and shares pages with the place: a space's by its place, a
@@ -55,11 +85,18 @@ fn shares(owner: Owner, part: &Fpage, mapping: &Record) -> bool
 }
 
 /// The record of a name, where it is the owner's and shares pages with the place.
-fn record_sharing(facts: &Facts, owner: Owner, part: &Fpage, id: RecordId) -> Option<Record>
+fn record_sharing(
+    listed: &Places,
+    facts: &Facts,
+    owner: Owner,
+    part: &Fpage,
+    id: RecordId,
+) -> Option<Record>
+    requires { AreListed (state_of_facts facts.now) listed.now }
     ensures { result
         ≡ record_if (shares_part owner part.now) ((state_of_facts facts.now).record_at id) }
 {
-    match facts.record(id) {
+    match record_under(listed, facts, id) {
         Some(mapping) if shares(owner, part, &mapping) => Some(mapping),
         _ => None,
     }
@@ -69,18 +106,20 @@ fn record_sharing(facts: &Facts, owner: Owner, part: &Fpage, id: RecordId) -> Op
 /// order of the names.
 fn named_sharing(
     alloc: Global,
-    names: &BTreeSet<RecordId>,
+    names: &[RecordId],
+    listed: &Places,
     facts: &Facts,
     owner: Owner,
     part: &Fpage,
 ) -> Result<Vec<Record>, AllocError>
+    requires { AreListed (state_of_facts facts.now) listed.now }
     ensures { IfOk result (λ found. found.items ≡ filter_map
         (λ id. record_if (shares_part owner part.now) ((state_of_facts facts.now).record_at id))
-        names.now.keys) }
+        names.now) }
 {
     let mut found = Vec::new(alloc);
     for id in names {
-        if let Some(mapping) = record_sharing(facts, owner, part, *id) {
+        if let Some(mapping) = record_sharing(listed, facts, owner, part, *id) {
             found.push(mapping)?;
         }
     }
@@ -100,6 +139,7 @@ pub(crate) fn all_sharing(
         ≡ filter (shares_part owner part.now) (records_of_facts facts.now)) }
     ensures formed { IfOk result (λ found. All IsFormedRecord found.items) }
 {
-    let names = names_meeting(alloc, listed, owner, part.first_page(), part.end())?;
-    named_sharing(alloc, &names, facts, owner, part)
+    let mut names = names_meeting(alloc, listed, owner, part.first_page(), part.end())?;
+    put_in_order(&mut names);
+    named_sharing(alloc, names.as_slice(), listed, facts, owner, part)
 }

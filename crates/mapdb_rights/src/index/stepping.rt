@@ -1,88 +1,134 @@
 //! What a record has at a page by what is cached of its parent, and how far that goes on.
 
-ghost use Rattle.std.specs.Prelude.{◌≡◌, ◌≤◌, ◌<◌, ℕ, None, false, true};
-ghost use Rattle.mapdb_fpage.specs.RightSets.{is_empty};
+ghost use Rattle.std.specs.Prelude.{◌≡◌, ◌≤◌, ◌<◌, ℕ, Some, false, true};
+ghost use Rattle.mapdb_fpage.specs.Place.{holds};
+ghost use Rattle.mapdb_facts.specs.Adding.{cut_at};
 ghost use Rattle.mapdb_facts.specs.Facts.{state_of_facts};
 ghost use Rattle.mapdb_facts.specs.Names.{is_root};
-ghost use Rattle.mapdb_rights.specs.Caching.{Cached, rights_from};
-ghost use Rattle.mapdb_rights.specs.Changes.{AreFrames, HasFrame, cached_in, change_at};
+ghost use Rattle.mapdb_facts.specs.WellFormed.{IsFormedRecord};
+ghost use Rattle.mapdb_rights.specs.Changes.{PageChanges};
+ghost use Rattle.mapdb_rights.specs.Following.{AreListed};
+ghost use Rattle.mapdb_rights.specs.Stepping.{IsGiven, IsStep};
 
-use super::changes::{AllChanges, Change, seen_at, unchanged_until};
+use super::changes::{AllChanges, Change, Stretch, stretch_at};
+use super::listing::record_under;
+use super::places::Places;
 use crate::sources::source_of;
-use mapdb_facts::{Facts, RecordId};
+use mapdb_facts::{Facts, Record, RecordId};
 use mapdb_fpage::{PAGE_LIMIT, Rights};
 
-/// What the root has at the page.
-fn root_change(facts: &Facts, id: RecordId, page: u64) -> Change
+/// What is cached of a record at a page, what follows there from its parent, and how far both go
+/// on.
+#[derive(Clone, Copy, Debug)]
+pub struct Step {
+    /// What is cached.
+    pub old: Change,
+    /// What follows from the parent.
+    pub change: Change,
+    /// The end of the pages over which both stand.
+    pub end: u64,
+}
+
+/// The rights that are taken from a record at a page, and the end of the pages from it on at which
+/// they are.
+fn taken_at(facts: &Facts, id: RecordId, page: u64) -> (Rights, u64)
+    requires { page < PAGE_LIMIT }
+    ensures above { page < result.1 }
+    ensures limit { result.1 ≤ PAGE_LIMIT }
+    ensures same { (q : ℕ) → page ≤ q → q < result.1
+        → cut_at (state_of_facts facts.now) id q ≡ result.0 }
+{
+    let Some(run) = facts.cut_run(id, page) else {
+        return (Rights::NONE, PAGE_LIMIT);
+    };
+    if page < run.first_page {
+        return (Rights::NONE, run.first_page);
+    }
+    (run.rights, run.first_page + run.page_count)
+}
+
+/// What the root has from a page on.
+fn root_given(facts: &Facts, id: RecordId, page: u64) -> Stretch
     requires root { is_root id ≡ true }
     requires in_space { page < PAGE_LIMIT }
-    ensures rights { (cached : Cached)
-        → result.rights ≡ rights_from cached (state_of_facts facts.now) id page }
-    ensures frame { HasFrame (state_of_facts facts.now) id page result.shift }
+    ensures { (changes : PageChanges) → IsGiven (state_of_facts facts.now) changes id page result }
 {
-    Change {
-        rights: Rights::ALL.without(facts.revoked(id, page)),
+    let (taken, end) = taken_at(facts, id, page);
+    let change = Change {
+        rights: Rights::ALL.without(taken),
         shift: PAGE_LIMIT,
-    }
+    };
+    Stretch { change, end }
 }
 
-/// What a record has at a page, if its parent has at the source page what is cached.
-pub(crate) fn change_from(changes: &AllChanges, facts: &Facts, id: RecordId, page: u64) -> Change
-    requires { page < PAGE_LIMIT }
-    ensures rights { result.rights
-        ≡ rights_from (cached_in changes.now.own.entries) (state_of_facts facts.now) id page }
-    ensures frame { AreFrames (state_of_facts facts.now) changes.now.own.entries
-        → is_empty result.rights ≡ false
-        → HasFrame (state_of_facts facts.now) id page result.shift }
+/// What a record whose space lives has from a page of its place on, by what is cached of its
+/// parent.
+fn child_given(changes: &AllChanges, facts: &Facts, mapping: &Record, page: u64) -> Stretch
+    requires child { is_root mapping.now.id ≡ false }
+    requires held { (state_of_facts facts.now).record_at mapping.now.id ≡ Some mapping.now }
+    requires formed { IsFormedRecord mapping.now }
+    requires lives { (state_of_facts facts.now).is_ended mapping.now.space ≡ false }
+    requires in_place { holds mapping.now.place page ≡ true }
+    requires in_space { page < PAGE_LIMIT }
+    ensures { IsGiven (state_of_facts facts.now) changes.now.own.entries
+        mapping.now.id page result }
 {
-    if id.is_root() {
-        return root_change(facts, id, page);
-    }
-    let Some(mapping) = facts.record(id) else {
-        return Change::NONE;
+    let source = source_of(mapping, page);
+    let up = stretch_at(changes, mapping.parent, source);
+    let (taken, taken_end) = taken_at(facts, mapping.id, page);
+    let change = Change {
+        rights: mapping.rights.meet(up.change.rights).without(taken),
+        shift: up.change.shift.saturating_add(source).saturating_sub(page),
     };
-    if !mapping.place.holds(page) || facts.ended(mapping.space) {
-        return Change::NONE;
-    }
-    let source = source_of(&mapping, page);
-    let up = seen_at(changes, mapping.parent, source);
-    let taken = facts.revoked(id, page);
-    Change {
-        rights: mapping.rights.meet(up.rights).without(taken),
-        shift: up.shift.saturating_add(source).saturating_sub(page),
-    }
+    let place_end = mapping.place.change_after(page);
+    let end = place_end.min(taken_end).min(page + (up.end - source));
+    Stretch { change, end }
 }
 
-/// The end of pages from one on over which one change stands, and over which what comes from the
-/// parent is the same.
-pub(crate) fn steady_end(changes: &AllChanges, facts: &Facts, id: RecordId, page: u64) -> u64
-    requires { page < PAGE_LIMIT }
-    ensures above { page < result }
-    ensures limit { result ≤ PAGE_LIMIT }
-    ensures one { (q : ℕ) → page < q → q < result → change_at changes.now.own.entries id q ≡ None }
-    ensures kept { (q : ℕ) → page ≤ q → q < result
-        → cached_in changes.now.own.entries id q ≡ cached_in changes.now.own.entries id page }
-    ensures same { (q : ℕ) → page ≤ q → q < result
-        → rights_from (cached_in changes.now.own.entries) (state_of_facts facts.now) id q
-        ≡ rights_from (cached_in changes.now.own.entries) (state_of_facts facts.now) id page }
-    ensures frames { AreFrames (state_of_facts facts.now) changes.now.own.entries
-        → is_empty (rights_from (cached_in changes.now.own.entries) (state_of_facts facts.now)
-        id page) ≡ false
-        → (shift : ℕ) → HasFrame (state_of_facts facts.now) id page shift
-        → (q : ℕ) → page ≤ q → q < result → HasFrame (state_of_facts facts.now) id q shift }
+/// What follows from a record's parent at a page, and how far that goes on.
+fn given_at(
+    changes: &AllChanges,
+    listed: &Places,
+    facts: &Facts,
+    id: RecordId,
+    page: u64,
+) -> Stretch
+    requires page { page < PAGE_LIMIT }
+    requires listed { AreListed (state_of_facts facts.now) listed.now }
+    ensures { IsGiven (state_of_facts facts.now) changes.now.own.entries id page result }
 {
-    let end = unchanged_until(changes, id, page).min(facts.revoked_until(id, page));
     if id.is_root() {
-        return end;
+        return root_given(facts, id, page);
     }
-    let Some(mapping) = facts.record(id) else {
-        return end;
+    let Some(mapping) = record_under(listed, facts, id) else {
+        return Stretch::none_until(PAGE_LIMIT);
     };
-    let end = end.min(mapping.place.change_after(page));
     if !mapping.place.holds(page) {
-        return end;
+        return Stretch::none_until(mapping.place.change_after(page));
     }
-    let source = source_of(&mapping, page);
-    let count = unchanged_until(changes, mapping.parent, source) - source;
-    end.min(page + count)
+    if facts.ended(mapping.space) {
+        return Stretch::none_until(PAGE_LIMIT);
+    }
+    child_given(changes, facts, &mapping, page)
+}
+
+/// What is cached of a record at a page, and what follows there from its parent.
+pub(crate) fn step_at(
+    changes: &AllChanges,
+    listed: &Places,
+    facts: &Facts,
+    id: RecordId,
+    page: u64,
+) -> Step
+    requires page { page < PAGE_LIMIT }
+    requires listed { AreListed (state_of_facts facts.now) listed.now }
+    ensures { IsStep (state_of_facts facts.now) changes.now.own.entries id page result }
+{
+    let own = stretch_at(changes, id, page);
+    let given = given_at(changes, listed, facts, id, page);
+    Step {
+        old: own.change,
+        change: given.change,
+        end: own.end.min(given.end),
+    }
 }

@@ -1,5 +1,5 @@
 use Rattle.std.proofs.Common.{sym, ◌∙◌}
-use Rattle.mapdb_replica.proofs.Copies.SameOps.{exact_op}
+use Rattle.mapdb_facts.specs.ExactOps.{exact_op}
 use Rattle.mapdb_exchange.proofs.reports.is_same_op.Goals as goal
 
 pub returns : goal.returns

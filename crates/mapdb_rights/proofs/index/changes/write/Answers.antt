@@ -9,12 +9,10 @@ use Rattle.mapdb_rights.proofs.index.changes.write.Goals as goal
 
 pub returns-clause-seen : goal.returns-clause-seen
 returns-clause-seen c =
-    on_ok c.put.result
-    (λ put other page.
-    given_everywhere c.split_at.new.changes.own.entries c.put.new.own_changes.entries c.args.id c.args.first c.args.change put
-    c.args.end c.requires.some c.requires.limit c.in_ok-split_at.ensures.one c.in_ok-split_at.ensures.ends other page
-    ∙ ap (λ kept. if covers c.args.id c.args.first c.args.end other page then c.args.change else kept) (c.in_ok-split_at.ensures.same other page))
-    c.put.ensures
+    on_ok c.write_among.result
+    (λ written. given_everywhere c.args.changes.now.own.entries c.write_among.new.own_changes.entries c.args.id c.args.first c.args.end c.args.was c.args.change written
+    c.requires.some c.requires.limit c.requires.one c.requires.was)
+    c.write_among.ensures
 
 rights_of_either : (b : Bool) (x y : Change) → (if b then x else y).rights ≡ (if b then x.rights else y.rights)
 rights_of_either true x y = refl
@@ -22,10 +20,10 @@ rights_of_either false x y = refl
 
 pub returns-clause-cached : goal.returns-clause-cached
 returns-clause-cached c =
-    on_ok c.put.result
-    (λ put other page.
-    ap (λ (seen : Change). seen.rights) (given_everywhere c.split_at.new.changes.own.entries c.put.new.own_changes.entries c.args.id c.args.first c.args.change put
-    c.args.end c.requires.some c.requires.limit c.in_ok-split_at.ensures.one c.in_ok-split_at.ensures.ends other page
-    ∙ ap (λ kept. if covers c.args.id c.args.first c.args.end other page then c.args.change else kept) (c.in_ok-split_at.ensures.same other page))
+    on_ok c.write_among.result
+    (λ written other page.
+    ap (λ (seen : Change). seen.rights)
+    (given_everywhere c.args.changes.now.own.entries c.write_among.new.own_changes.entries c.args.id c.args.first c.args.end c.args.was c.args.change written
+    c.requires.some c.requires.limit c.requires.one c.requires.was other page)
     ∙ rights_of_either (covers c.args.id c.args.first c.args.end other page) c.args.change (seen_in c.args.changes.now.own.entries other page))
-    c.put.ensures
+    c.write_among.ensures

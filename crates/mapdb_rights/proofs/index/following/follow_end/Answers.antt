@@ -13,6 +13,10 @@ use Rattle.mapdb_rights.proofs.Settling.Followed.{frames_by_op, first_alone, lef
 use Rattle.mapdb_rights.proofs.Lists.Results.{on_both}
 use Rattle.mapdb_rights.proofs.index.following.follow_end.Goals as goal
 
+pub push_space-requires : goal.push_space-requires
+push_space-requires c =
+    listed_by_end (state_of_facts c.args.facts.now) c.requires.stood.before c.args.space c.args.listed.now c.requires.stood.is c.requires.stood.stood.listed_there
+
 pub settle-requires-clause-listed : goal.settle-requires-clause-listed
 settle-requires-clause-listed c =
     listed_by_end (state_of_facts c.args.facts.now) c.requires.stood.before c.args.space c.args.listed.now c.requires.stood.is c.requires.stood.stood.listed_there

@@ -8,6 +8,7 @@ use Rattle.mapdb_facts.specs.State.{said}
 use Rattle.mapdb_facts.specs.declared.operations.Op.TheVariants.{Born}
 use Rattle.mapdb_rights.specs.Changes.{cached_in}
 use Rattle.mapdb_rights.proofs.Settling.Followed.{frames_by_op, left_by_op, listed_by_record, of_held_on}
+use Rattle.mapdb_rights.proofs.Settling.HeldRecords.{records_by_record}
 use Rattle.mapdb_rights.proofs.Settling.Pendings.{pending_last}
 use Rattle.mapdb_rights.proofs.Lists.Results.{on_both}
 use Rattle.mapdb_rights.proofs.index.following.follow_record.Goals as goal
@@ -24,6 +25,8 @@ settle-requires-clause-listed c =
     (state_of_facts c.args.facts.now) c.requires.stood.before c.args.mapping.now c.requires.stood.is
     c.in_ok-list_held.ensures.there c.requires.stood.stood.listed_there c.in_ok-list_held.ensures.aligned c.in_ok-list_held.ensures.held
     c.in_ok-list_held.ensures.held_named c.in_ok-list_held.ensures.held_formed
+    (records_by_record c.args.listed.now c.list_held.new.listed (state_of_facts c.args.facts.now) c.requires.stood.before c.args.mapping.now c.requires.stood.is
+    c.in_ok-list_held.ensures.held_named c.in_ok-list_held.ensures.records c.requires.stood.stood.listed_there.by_name)
 
 pub settle-requires-clause-settled : goal.settle-requires-clause-settled
 settle-requires-clause-settled c =
@@ -44,5 +47,7 @@ returns c = on_both c.settle.result (λ are frames. record {
       listed_by_record c.args.listed.now c.list_held.new.listed c.in_ok-list_held.ensures.kept
       (state_of_facts c.args.facts.now) c.requires.stood.before c.args.mapping.now c.requires.stood.is
       c.in_ok-list_held.ensures.there c.requires.stood.stood.listed_there c.in_ok-list_held.ensures.aligned c.in_ok-list_held.ensures.held
-      c.in_ok-list_held.ensures.held_named c.in_ok-list_held.ensures.held_formed;
+      c.in_ok-list_held.ensures.held_named c.in_ok-list_held.ensures.held_formed
+      (records_by_record c.args.listed.now c.list_held.new.listed (state_of_facts c.args.facts.now) c.requires.stood.before c.args.mapping.now c.requires.stood.is
+      c.in_ok-list_held.ensures.held_named c.in_ok-list_held.ensures.records c.requires.stood.stood.listed_there.by_name);
 }) c.settle.ensures.rights c.settle.ensures.frames

@@ -2,7 +2,7 @@ use Rattle.std.proofs.Common.{ap, sym, subst, ◌∙◌}
 use Rattle.mapdb_facts.specs.Facts.{state_of_facts}
 use Rattle.mapdb_facts.specs.Looking.{Holds}
 use Rattle.mapdb_facts.specs.declared.operations.Record.{Record}
-use Rattle.mapdb_rights.specs.Listing.{IsListed}
+use Rattle.mapdb_rights.specs.Listing.{IsListed, held_with}
 use Rattle.mapdb_facts.proofs.Lists.SameNames.{some_same}
 use Rattle.mapdb_rights.proofs.Settling.Followed.{of_held_with}
 use Rattle.mapdb_rights.proofs.Lists.Results.{on_ok}
@@ -13,6 +13,12 @@ returns-in-Some-clause-there c =
     on_ok c.list_record.result
     (λ there r at. subst (λ (s : Record). IsListed c.list_record.new.listed s) (some_same c.in-Some.mapping r (sym c.in-Some.is ∙ c.record.ensures.held ∙ at)) there)
     c.list_record.ensures.there
+
+pub returns-in-Some-clause-records : goal.returns-in-Some-clause-records
+returns-in-Some-clause-records c =
+    on_ok c.list_record.result
+    (λ more r at other. more other ∙ ap (λ (s : Record). held_with c.args.listed.now s other) (some_same c.in-Some.mapping r (sym c.in-Some.is ∙ c.record.ensures.held ∙ at)))
+    c.list_record.ensures.records
 
 pub returns-in-Some-clause-held : goal.returns-in-Some-clause-held
 returns-in-Some-clause-held c =

@@ -1,9 +1,20 @@
-use Rattle.std.proofs.Common.{◌≡◌, true, subst, ◌∙◌, inl, inr}
+use Rattle.std.proofs.Common.{◌≡◌, true, subst, sym, ◌∙◌, inl, inr}
 use Rattle.mapdb_rights.specs.Listing.{is_listed, source_of}
 use Rattle.mapdb_rights.specs.declared.index.places.Listed.{Listed}
 use Rattle.mapdb_rights.specs.declared.index.places.Owner.TheVariants.{Record, Space}
-use Rattle.mapdb_rights.proofs.Lists.Results.{on_both, on_ok}
+use Rattle.mapdb_rights.proofs.Lists.Results.{on_any, on_both, on_ok}
 use Rattle.mapdb_rights.proofs.index.listing.list_record.Goals as goal
+
+pub list_place-requires-clause-aligned : goal.list_place-requires-clause-aligned
+list_place-requires-clause-aligned c e has = c.requires.aligned e (sym (c.in_ok-hold.ensures.listed e) ∙ has)
+
+pub returns-clause-kept : goal.returns-clause-kept
+returns-clause-kept c =
+    on_ok c.list_place-2.result (λ kept e has. kept e (c.in_ok-list_place.ensures.kept e (c.in_ok-hold.ensures.listed e ∙ has))) c.list_place-2.ensures.kept
+
+pub returns-clause-records : goal.returns-clause-records
+returns-clause-records c =
+    on_any c.list_place-2.result (λ id. c.list_place-2.ensures.records id ∙ c.in_ok-list_place.ensures.records id ∙ c.in_ok-hold.ensures.records id)
 
 pub returns-clause-there : goal.returns-clause-there
 returns-clause-there c =
@@ -29,7 +40,7 @@ returns-clause-no_more c =
       | inl here ↦ inl (here ∙ λ i. record { owner = Space r.space; order = order i; first = first i; id = r.id })
       | inr before ↦ elim (c.in_ok-list_place.ensures.no_more e before) [
         | inl source ↦ inr (inl (source ∙ λ i. record { owner = Record r.parent; order = order i; first = r.source; id = r.id }))
-        | inr stood ↦ inr (inr stood)
+        | inr stood ↦ inr (inr (sym (c.in_ok-hold.ensures.listed e) ∙ stood))
       ]
     ])
     c.list_place-2.ensures.no_more

@@ -5,4 +5,4 @@ use Rattle.mapdb_rights.proofs.index.own_places.many_of.Given as goal
 
 -- the places so far
 abbrev pub invariant-loop-place : goal.invariant-loop-place
-invariant-loop-place l = (k : OwnPlace) → stands l.many.places.keys k ≡ stands (take l.place-index l.places) k
+invariant-loop-place l = (k : OwnPlace) → stands l.many.places k ≡ stands (take l.place-index l.places) k

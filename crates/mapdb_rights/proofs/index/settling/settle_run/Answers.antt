@@ -1,5 +1,4 @@
-use Rattle.std.proofs.Common.{◌≡◌, Some, ap, sym, subst, ◌∙◌, inl}
-use Rattle.mapdb_fpage.specs.RightSets.{is_empty}
+use Rattle.std.proofs.Common.{◌≡◌, Some, ap, sym, subst, ◌∙◌, arith, inl}
 use Rattle.mapdb_facts.specs.Exact.{exact_rights}
 use Rattle.mapdb_facts.specs.Facts.{state_of_facts}
 use Rattle.mapdb_facts.specs.State.{State}
@@ -16,15 +15,19 @@ pub returns-then-eq-clause-settled : goal.returns-then-eq-clause-settled
 returns-then-eq-clause-settled c id page before =
     let S : State = state_of_facts c.args.facts.now in
     let cached : Cached = cached_in c.args.changes.now.own.entries in
-    let known : c.change_from-change.result.rights ≡ cached_in c.args.changes.now.own.entries c.args.stale.id c.args.stale.first = exact_rights c.change_from-change.result.rights c.cached_at.result (sym c.eq.ensures ∙ c.if-eq.true) ∙ c.cached_at.ensures in
-    inl (settled_already S cached cached c.args.stale.id c.args.stale.first c.args.end c.change_from-change.result.rights c.change_from-change.ensures.rights c.requires.same c.requires.kept known id page before)
+    let step = c.requires.step in
+    let known : c.args.next.change.rights ≡ c.args.next.old.rights = exact_rights c.args.next.change.rights c.args.next.old.rights (sym c.eq.ensures ∙ c.if-eq.true) in
+    inl (settled_already S cached cached c.args.stale.id c.args.stale.first c.args.end c.args.next.change.rights
+    (λ q from before_end. step.follows.rights q from (omega arith))
+    (λ q from before_end. (λ i. (step.cached q from (omega arith) i).rights) ∙ sym known) id page before)
 
 pub returns-clause-settled : goal.returns-clause-settled
 returns-clause-settled c =
     let S : State = state_of_facts c.args.facts.now in
+    let step = c.requires.step in
     on_ok c.push_children.result
-    (λ pushed. settled_after S (cached_in c.args.changes.now.own.entries) (cached_in c.write.new.changes.own.entries) c.args.stale.id c.args.stale.first c.args.end c.change_from-change.result.rights
-    c.change_from-change.ensures.rights c.requires.same c.in_ok-write.ensures.cached c.push_children.new.stack.items
+    (λ pushed. settled_after S (cached_in c.args.changes.now.own.entries) (cached_in c.write.new.changes.own.entries) c.args.stale.id c.args.stale.first c.args.end c.args.next.change.rights
+    (λ q from before_end. step.follows.rights q from (omega arith)) c.in_ok-write.ensures.cached c.push_children.new.stack.items
     (λ other r held parent page inside from before.
     let named = c.requires.listed.named other r held in
     let own : S.record_at r.id ≡ Some r = ap S.record_at named ∙ held in
@@ -35,9 +38,7 @@ returns-clause-settled c =
 
 pub returns-clause-frames : goal.returns-clause-frames
 returns-clause-frames c =
-    let S : State = state_of_facts c.args.facts.now in
     on_any c.push_children.result
-    (frames_written S c.args.changes.now.own.entries c.write.new.changes.own.entries c.args.stale.id c.args.stale.first c.args.end c.change_from-change.result c.requires.frames
-    (λ some q from before. c.requires.frames_on (ap is_empty (sym c.change_from-change.ensures.rights) ∙ some) c.change_from-change.result.shift
-    (c.change_from-change.ensures.frame c.requires.frames some) q from before)
+    (frames_written (state_of_facts c.args.facts.now) c.args.changes.now.own.entries c.write.new.changes.own.entries c.args.stale.id c.args.stale.first c.args.end c.args.next.change c.requires.frames
+    (λ some q from before. c.requires.step.follows.frames c.requires.frames some q from (omega arith))
     c.in_ok-write.ensures.seen)

@@ -7,7 +7,7 @@ use Rattle.mapdb_rights.proofs.index.many_places.ManyPlaces.next_meeting.Goals a
 
 pub orders-preserved : goal.orders-preserved
 orders-preserved c =
-    let keys = c.args.self.now.places.keys in
+    let keys = c.args.self.now.places in
     let here : IsReachedAbove keys c.args.first c.args.end c.args.after c.in-Some.spot.place =
     subst (λ (r : Option Spot). HasReached keys c.args.first c.args.end c.args.after (option_map spot_place r)) c.in-Some.is c.orders.invariant.reached in
     let apart : own_meets c.in-Some.spot.place c.args.first c.args.end ≡ false = sym c.meets.ensures ∙ c.if-meets.false in

@@ -4,8 +4,8 @@ use Rattle.mapdb_rights.proofs.index.many_places.ManyPlaces.next_meeting.Given a
 
 abbrev pub invariant-orders : goal.invariant-orders
 invariant-orders l = record {
-  reached : HasReached l.self.places.keys l.first l.end l.fn.after (option_map spot_place l.reached);
-  behind : IfSome l.reached (IsBehind l.self.places.keys);
+  reached : HasReached l.self.places l.first l.end l.fn.after (option_map spot_place l.reached);
+  behind : IfSome l.reached (IsBehind l.self.places);
 }
 
 abbrev pub decreases-orders : goal.decreases-orders

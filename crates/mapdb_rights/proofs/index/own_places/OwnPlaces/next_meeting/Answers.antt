@@ -4,8 +4,8 @@ use Rattle.mapdb_rights.specs.declared.index.own_places.OwnPlaces.{OwnPlaces}
 use Rattle.mapdb_rights.specs.OwnPlaces.{AreAligned, own_list}
 use Rattle.mapdb_rights.proofs.index.own_places.OwnPlaces.next_meeting.Goals as goal
 
-pub found_meeting-requires : goal.found_meeting-requires
-found_meeting-requires c =
+pub least_meeting-requires : goal.least_meeting-requires
+least_meeting-requires c =
     subst (λ (places : List OwnPlace). AreAligned places) (sym c.as_slice.ensures) (subst (λ (own : OwnPlaces). AreAligned (own_list own)) c.in-Few.is c.requires)
 
 pub next_meeting-requires : goal.next_meeting-requires

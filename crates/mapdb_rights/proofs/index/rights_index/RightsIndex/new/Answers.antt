@@ -19,8 +19,9 @@ returns c = record {
       named = λ id r held. absurd (none_some r held);
       formed = λ r held. absurd (none_some r held);
       places = λ r held. absurd (none_some r held);
-      aligned = none_aligned c.new-2.result c.new-2.ensures;
-      held = λ e has. absurd (true≢false (sym has ∙ c.new-2.ensures e));
+      aligned = none_aligned c.new-2.result c.new-2.ensures.no_place;
+      held = λ e has. absurd (true≢false (sym has ∙ c.new-2.ensures.no_place e));
+      by_name = c.new-2.ensures.no_record;
     };
   };
 }

@@ -1,0 +1,37 @@
+use Rattle.std.proofs.Common.{◌<◌, sym, subst, arith}
+use Rattle.mapdb_fpage.specs.Bounds.{page_limit}
+use Rattle.mapdb_fpage.specs.declared.right_sets.Rights.{Rights}
+use Rattle.mapdb_facts.specs.Facts.{state_of_facts}
+use Rattle.mapdb_rights.specs.OwnPlaces.{own_list}
+use Rattle.mapdb_rights.specs.declared.index.places.Owner.TheVariants as owners
+use Rattle.mapdb_rights.proofs.Live.FrameRights.{RightsPassed, rights_all, rights_on}
+use Rattle.mapdb_rights.proofs.Live.PassedPlaces.{none_passed}
+use Rattle.mapdb_rights.proofs.Places.OwnersPlaces.{own_aligned}
+use Rattle.mapdb_rights.proofs.index.frame_rights.rights_among.Goals as goal
+
+pub next_place-requires : goal.next_place-requires
+next_place-requires c = own_aligned c.args.listed.now (owners.Space c.args.space) (own_list c.args.own.now) c.requires.places c.requires.stands.listed_there.aligned
+
+pub places-init : goal.places-init
+places-init c = record {
+  found_there = c.root_rights-known.ensures.found;
+  top = c.root_rights-known.ensures.there;
+  behind = none_passed (state_of_facts c.args.facts.now) c.args.space c.args.page _ c.args.own.now c.saturating_add-end.result c.start-sweep.result c.start-sweep.ensures;
+}
+
+pub places-preserved : goal.places-preserved
+places-preserved c =
+    let S = state_of_facts c.args.facts.now in
+    let changes = c.args.changes.now.own.entries in
+    let own = c.args.own.now in
+    let end = c.saturating_add-end.result in
+    subst (λ (r : Rights). RightsPassed S changes c.args.space c.args.page c.args.shift own end c.in-Some.next.sweep r) (sym c.with_record-known.ensures)
+    (rights_on S changes c.args.space c.args.page c.args.shift c.requires.stands.rights c.args.listed.now c.requires.stands.listed_there own end c.requires.places
+    c.places.sweep c.in-Some.next c.places.known c.in-Some.ensures c.places.invariant)
+
+pub returns : goal.returns
+returns c =
+    let end = c.saturating_add-end.result in
+    let more = λ (inside : c.args.page < page_limit). let h : c.args.page < end = omega (arith, c.saturating_add-end.ensures) in h in
+    rights_all (state_of_facts c.args.facts.now) c.args.changes.now.own.entries c.args.space c.args.page c.args.shift c.requires.stands.rights c.args.listed.now c.requires.stands.listed_there
+    c.args.own.now end c.requires.places c.places.sweep c.places.known more c.in_default.ensures c.places.invariant

@@ -1,0 +1,14 @@
+use Rattle.std.proofs.Common.{◌≡◌, true, length}
+use Rattle.std.specs.Prelude.{◌⊎◌}
+use Rattle.mapdb_rights.specs.declared.index.own_places.OwnPlace.{OwnPlace}
+use Rattle.mapdb_rights.specs.Meeting.{is_named}
+use Rattle.mapdb_rights.specs.OwnPlaces.{ahead, own_list, own_meets, stands}
+use Rattle.mapdb_rights.proofs.index.sharing.names_of.Given as goal
+
+-- each place that meets the pages comes later, or its name is there
+abbrev pub invariant-places : goal.invariant-places
+invariant-places l = (p : OwnPlace) → stands (own_list l.own) p ≡ true → own_meets p l.first l.end ≡ true
+    → (stands (ahead l.own l.sweep) p ≡ true) ⊎ (is_named l.names.items p.id ≡ true)
+
+abbrev pub decreases-places : goal.decreases-places
+decreases-places l = length (ahead l.own l.sweep)
