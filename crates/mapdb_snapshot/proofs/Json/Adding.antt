@@ -1,7 +1,7 @@
 -- Rows that are added one behind the other.
 use Rattle.std.proofs.Common.{◌≡◌, ℕ, ◌+◌, ◌-◌, ◌<◌, sym, ap, ◌∙◌, List, [], ◌∷◌, ◌++◌, append_assoc}
 use Rattle.std.specs.Prelude.{◌^◌, map}
-use Rattle.std.proofs.lemmas.List.{append-nil, map-append}
+use Rattle.std.proofs.lemmas.List.{map-append}
 use Rattle.mapdb_fpage.specs.Bounds.{least_order}
 use Rattle.mapdb_fpage.specs.declared.right_sets.Rights.{Rights}
 use Rattle.mapdb_facts.specs.declared.names.RecordId.{RecordId}
@@ -11,17 +11,6 @@ use Rattle.mapdb_snapshot.specs.Cutting.{cuts_of_run, cuts_of_runs}
 use Rattle.mapdb_snapshot.specs.Snapshot.{cut_row}
 use Rattle.mapdb_snapshot.proofs.Places.LargestPlaces.{doublings_of, no_places, places_next}
 use Rattle.serde_json.specs.Data.{Data}
-
--- one more, and those that are left
-pub pushed : {A B : Type 0} → (f : A → B) (old new : List A) (x : A) (d : B) (ds all : List B) → new ≡ old ++ x ∷ [] → f x ≡ d
-    → map f old ++ d ∷ ds ≡ all → map f new ++ ds ≡ all
-pushed f old new x d ds all more is before =
-    ap (λ xs. map f xs ++ ds) more ∙ ap (λ ys. ys ++ ds) (map-append f old (x ∷ [])) ∙ append_assoc (map f old) (f x ∷ []) ds
-    ∙ ap (λ y. map f old ++ y ∷ ds) is ∙ before
-
--- none are left
-pub all_there : {B : Type 0} → (rows rest all : List B) → rest ≡ [] → rows ++ rest ≡ all → rows ≡ all
-all_there rows rest all none before = sym (append-nil rows) ∙ sym (ap (λ ys. rows ++ ys) none) ∙ before
 
 abbrev pub run_of : ℕ → ℕ → Rights → CutRun
 run_of page count rights = record { first_page = page; page_count = count; rights = rights }
@@ -47,12 +36,10 @@ no_run_rows id rights page count none =
     ap (λ n. rows_of id rights page n) none
     ∙ ap (λ places. map cut_row (map (λ place. record { target = id; part = place; rights = rights }) places)) (no_places page)
 
--- the rows of one run more
-pub run_added : (id : RecordId) (old new : List Data) (run : CutRun) (runs rest : List CutRun) (all : List Data)
-    → new ≡ old ++ map cut_row (cuts_of_run id run) → runs ≡ run ∷ rest
-    → old ++ map cut_row (cuts_of_runs id runs) ≡ all → new ++ map cut_row (cuts_of_runs id rest) ≡ all
-run_added id old new run runs rest all more is before =
-    ap (λ (ds : List Data). ds ++ map cut_row (cuts_of_runs id rest)) more
-    ∙ append_assoc old (map cut_row (cuts_of_run id run)) (map cut_row (cuts_of_runs id rest))
-    ∙ ap (λ (ds : List Data). old ++ ds) (sym (map-append cut_row (cuts_of_run id run) (cuts_of_runs id rest)))
-    ∙ ap (λ (xs : List CutRun). old ++ map cut_row (cuts_of_runs id xs)) (sym is) ∙ before
+-- the rows of a run, and those of the rest
+pub run_added : (id : RecordId) (run : CutRun) (runs rest : List CutRun) (rows : List Data) → runs ≡ run ∷ rest
+    → map cut_row (cuts_of_run id run) ++ (map cut_row (cuts_of_runs id rest) ++ rows) ≡ map cut_row (cuts_of_runs id runs) ++ rows
+run_added id run runs rest rows is =
+    sym (append_assoc (map cut_row (cuts_of_run id run)) (map cut_row (cuts_of_runs id rest)) rows)
+    ∙ ap (λ (ds : List Data). ds ++ rows) (sym (map-append cut_row (cuts_of_run id run) (cuts_of_runs id rest)))
+    ∙ ap (λ (xs : List CutRun). map cut_row (cuts_of_runs id xs) ++ rows) (sym is)
