@@ -1,7 +1,6 @@
 -- What pages feed a hasher: one word, which tells most of them apart.
 use Rattle.std.specs.Prelude.{◌≡◌, ℕ, true, ◌+◌, ◌*◌, ◌%◌, ◌^◌, ◌&&◌, nat_eq}
 use Rattle.std.specs.Hash.{HashWrites, u64}
-use Rattle.std.proofs.Common.{ap}
 use Rattle.std.proofs.lemmas.Bool.{and_parts, eqb-true}
 use Rattle.mapdb_fpage.specs.Bounds.{page_limit}
 use Rattle.mapdb_facts.specs.Exact.{exact_space}

@@ -1,4 +1,4 @@
-//! The places of one owner: a few in a list, many in a set.
+//! The places of one owner: a few as they came, many in their order.
 
 ghost use Rattle.std.specs.Prelude.{◌≡◌, ◌≤◌, ◌<◌, ◌-◌, ◌^◌, ◌||◌, IfOk, IfSome, OnOk, []};
 ghost use Rattle.std.specs.Prelude.{option_map};
