@@ -7,5 +7,4 @@ pub mod SameCopies
 pub mod Numbering
 pub mod Finished
 pub mod MetFaults
-pub mod LimitLemmas
 pub mod MoreCalls

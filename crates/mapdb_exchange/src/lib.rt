@@ -21,6 +21,7 @@
 mod exchange;
 mod faults;
 mod issuing;
+pub mod laws;
 mod limits;
 mod links;
 mod messages;

@@ -1,6 +1,6 @@
 //! What holds of the order, the union and a clash, for every type that merges. Each function does
 //! nothing when it runs: its contract is the law.
-ghost use Rattle.std.specs.Prelude.{◌≡◌, true, List, [], ◌∷◌, Some};
+ghost use Rattle.std.specs.Prelude.{◌≡◌, ◌^◌, true, List, [], ◌∷◌, Some};
 ghost use Rattle.std.specs.List.{Contains};
 ghost use Rattle.std.specs.Map.{lookup};
 ghost use Rattle.std.specs.BTreeMap.{is_at};
@@ -9,6 +9,7 @@ ghost use Rattle.mapdb_join.specs.Entries.{has_under, IsChangedAt, ChangesAlone}
 
 use crate::exact::Exact;
 use crate::merge::Merge;
+use crate::runs::{BITS_LIMIT, RUN_LIMIT};
 
 /// A value covers itself, what is covered by what is covered is covered, and two values that cover
 /// each other have the same atoms.
@@ -57,18 +58,6 @@ pub fn bound_where_no_clash<T: Merge>()
         (c : T) × T.is_value c × IsLeastUpperBound T.has a b c }
 {}
 
-/// Two values at hand have a common upper bound exactly where they do not clash: where they clash
-/// no value covers both, and where they do not a program can have the least one that does.
-pub fn bound_exactly_where_no_clash<T: Merge>(a: &T, b: &T)
-    ensures none { (c : T) → Clashes T.has T.excludes a.now b.now →
-        Includes T.has c a.now → Includes T.has c b.now → ⊥ }
-    ensures some { (Clashes T.has T.excludes a.now b.now → ⊥) →
-        (c : T) × T.is_value c × IsLeastUpperBound T.has a.now b.now c }
-{
-    a.prove_value();
-    b.prove_value();
-}
-
 /// Two values clash first at one spot only, so `clash` has one answer.
 pub fn one_spot<T: Merge>()
     ensures { (a b : T) (s t : T.Spot) → T.is_spot a b s → T.is_spot a b t → s ≡ t }
@@ -87,4 +76,9 @@ pub fn union_under_key<K: Ord + Exact, V: Merge>()
     ensures { (old new : List (K × V)) (k : K) (v part w : V) →
         lookup (is_at (K.cmp k)) old ≡ Some v → IsChangedAt K.cmp old new k w →
         IsUnion V.has v part w → IsUnion (has_under K.cmp V.has) old ((k, part) ∷ []) new }
+{}
+
+/// The numbers that the bounds of runs are: pages of 48-bit addresses, and sets of three bits.
+pub fn run_bounds()
+    ensures { (RUN_LIMIT ≡ 2 ^ 36) × (BITS_LIMIT ≡ 2 ^ 3) }
 {}

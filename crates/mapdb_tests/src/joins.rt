@@ -1,9 +1,7 @@
 //! What no clause says of values that merge: that the calls succeed with ample memory, through the
 //! bounds too, and that the examples of the crate's page hold.
 
-use mapdb_join::{
-    BitsOr, Both, Flat, Grow, JoinMap, Merge, MergeFault, MergePart, laws, least_above,
-};
+use mapdb_join::{BitsOr, Both, Flat, Grow, JoinMap, Merge, MergeFault, MergePart, least_above};
 use std::alloc::{AllocError, Global};
 use std::test::Fail;
 
@@ -31,7 +29,6 @@ fn merges_twice<T: Merge>(value: &mut T, other: &T) -> Result<bool, AllocError> 
 
 /// Whether two values have a least bound, which covers both.
 fn is_bounded<T: Merge>(a: &T, b: &T) -> Result<bool, AllocError> {
-    laws::bound_exactly_where_no_clash(a, b);
     match least_above(a, b)? {
         Some(bound) => Ok(bound.covers(a) && bound.covers(b)),
         None => Ok(false),
