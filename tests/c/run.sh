@@ -1,7 +1,8 @@
 #!/bin/sh
 # Builds the archive, compiles the header, the examples and the tests with all warnings as errors,
 # and runs them: as C99, C17 and C++17, under the address and undefined-behaviour sanitizers, under
-# valgrind where it is there, and by scripts against l4map. The last line is 'N passed, M failed'.
+# valgrind where it is there, from an installation, and by scripts against l4map. The last line is
+# 'N passed, M failed'.
 # Use: tests/c/run.sh, anywhere; with an archive that is built: ARCHIVE=FILE tests/c/run.sh; with
 # more random scripts: RANDOM_SCRIPTS=10000 tests/c/run.sh
 set -u
@@ -112,6 +113,20 @@ freestanding() {
         -o "$build/freestanding" tests/c/freestanding.c "$ARCHIVE" && "$build/freestanding"
 }
 try "freestanding" freestanding
+
+# What is installed says where it is, though another folder was named before, and is enough to build
+# and run a program.
+installed() {
+    for folder in first second; do
+        there=$build/$folder
+        make -s -o "$ARCHIVE" ARCHIVE="$ARCHIVE" BUILT="$build/made" DESTDIR= PREFIX="$there" install ||
+            return 1
+        grep -qx "prefix=$there" "$there/lib/pkgconfig/mapdb.pc" || return 1
+        gcc -O2 -I"$there/include" examples/c/smallest.c -L"$there/lib" -lmapdb_c -lmapdb_heap \
+            -o "$build/installed_$folder" && "$build/installed_$folder" || return 1
+    done
+}
+try "installations" installed
 
 if command -v valgrind >/dev/null 2>&1; then
     for program in smallest_plain two_processors_plain calls_plain orders_plain; do
