@@ -1,5 +1,5 @@
 # The static library for C: the archive, the heap over malloc, the examples, the tests, and an
-# installation. The archive is proved and built by `rt`, the command of the kit that the README names.
+# installation. The archive is proved and built by `rt`, the command of the kit (README.md).
 
 PREFIX ?= /usr/local
 CC ?= cc
