@@ -39,8 +39,8 @@
  *  - No pointer is null. An array of length 0 has a pointer too. Pointers are aligned as their
  *    types are.
  *  - An array has as many elements as its length says, also one that is only written.
- *  - A mapdb_copy is MAPDB_EMPTY or as the last call left it. It is not copied: no
- *    two handles are of one copy.
+ *  - A mapdb_copy is MAPDB_EMPTY or as the last call left it. It is not copied: no two handles are
+ *    of one copy.
  *  - A mapdb_copy is in one call at a time. That holds for queries too, so readers of one copy lock
  *    it, or better, stay on its processor. Two calls at two copies may run at once, if the heap's
  *    functions may.
