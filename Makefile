@@ -1,5 +1,5 @@
 # The static library for C: the archive, the heap over malloc, the examples, the tests, and an
-# installation. The archive is proved and built by `rt`, the command of the kit that the README names.
+# installation. The archive is proved and built by `rt`, the command of the kit (README.md).
 
 PREFIX ?= /usr/local
 CC ?= cc
@@ -8,7 +8,7 @@ ARCHIVE = crates/mapdb_c/out/libmapdb_c.a
 SOURCES = $(shell find crates -path '*/out' -prune -o -name '*.rt' -print -o -name '*.antt' -print)
 BUILT = build
 
-all: $(ARCHIVE) $(BUILT)/smallest $(BUILT)/two_processors $(BUILT)/mapdb.pc
+all: $(ARCHIVE) $(BUILT)/smallest $(BUILT)/two_processors
 
 $(ARCHIVE): crates.txt $(SOURCES)
 	./prove mapdb_c
@@ -24,16 +24,14 @@ $(BUILT)/%: examples/c/%.c include/mapdb.h $(BUILT)/mapdb_heap.o $(ARCHIVE)
 $(BUILT)/calls: bench/c/calls.c include/mapdb.h $(BUILT)/mapdb_heap.o $(ARCHIVE)
 	$(CC) $(CFLAGS) -Iinclude -o $@ $< $(BUILT)/mapdb_heap.o $(ARCHIVE)
 
-$(BUILT)/mapdb.pc: mapdb.pc.in
-	mkdir -p $(BUILT)
-	sed 's#@PREFIX@#$(PREFIX)#' $< > $@
-
-# The heap over malloc has an archive of its own, which a kernel with a heap leaves out.
-install: $(ARCHIVE) $(BUILT)/mapdb_heap.o $(BUILT)/mapdb.pc
+# The heap over malloc has an archive of its own, which a kernel with a heap leaves out. mapdb.pc
+# names the folder of this installation, so it is made anew each time.
+install: $(ARCHIVE) $(BUILT)/mapdb_heap.o
 	install -d $(DESTDIR)$(PREFIX)/include $(DESTDIR)$(PREFIX)/lib/pkgconfig
 	install -m 644 include/mapdb.h $(DESTDIR)$(PREFIX)/include
 	install -m 644 $(ARCHIVE) $(DESTDIR)$(PREFIX)/lib
 	ar rcs $(DESTDIR)$(PREFIX)/lib/libmapdb_heap.a $(BUILT)/mapdb_heap.o
+	sed 's#@PREFIX@#$(abspath $(PREFIX))#' mapdb.pc.in > $(BUILT)/mapdb.pc
 	install -m 644 $(BUILT)/mapdb.pc $(DESTDIR)$(PREFIX)/lib/pkgconfig
 
 test: $(ARCHIVE)

@@ -6,29 +6,41 @@
  * any order and as often as it likes; copies that took the same operations answer each query alike.
  * docs/KERNELS.md says what a kernel does beside that.
  *
- * Link libmapdb_c.a. It wants memcpy, memmove and memset, and three functions for its heap:
+ * Link libmapdb_c.a. It wants memcpy, memmove and memset as of C (memcpy also from a place to
+ * itself, and all three with size 0 whatever the pointers), and three functions for its heap:
  *
  *     struct { bool ok; void *block; } rattle_alloc(size_t size, size_t alignment);
  *     struct { bool ok; void *block; } rattle_realloc(void *old, size_t kept, size_t size,
  *                                                     size_t alignment);
  *     void rattle_dealloc(void *block);
  *
- * c/mapdb_heap.c has them over malloc. The code uses SSE registers, and the red zone below the
- * stack pointer: enter calls with the stack aligned to 16 bytes and 16 kB of it free (96 kB at
- * mapdb_load), have interrupts on a stack of their own, and save the vector registers where the
- * thread that calls does not own them.
+ *  - rattle_alloc gives a block of `size` bytes, or of `alignment` bytes where the size is 0, at a
+ *    multiple of `alignment`. An alignment divides 16, and a size is below 2^63. Whether there is
+ *    such a block is told by `ok`; `block` is never null, also where there is none.
+ *  - rattle_realloc gives the block `old` another size, in its place or another one, with the
+ *    alignment that it had. Its first `kept` bytes stay, which are no more than the old size or the
+ *    new one. Where `ok` is false, the old block stays as it was, and in use.
+ *  - rattle_dealloc takes a block back that the other two gave.
+ *
+ * They are called while a call runs, on its thread, and come back without a call of this library.
+ * They may refuse at any time. c/mapdb_heap.c has them over malloc.
+ *
+ * The code uses SSE registers, and the red zone below the stack pointer: enter calls with the stack
+ * aligned to 16 bytes and 16 kB of it free (96 kB at mapdb_load), have interrupts on a stack of
+ * their own, and save the vector registers where the thread that calls does not own them.
  *
  * No call waits, takes a lock or starts a thread. No call changes anything but its copy, its heap
  * and the places that it is given, and each call ends. A call that is refused leaves the copy as it
- * was, but where MAPDB_MEMORY says what stands.
+ * was, but where MAPDB_MEMORY says what stands. Behind what a call writes into an array, the array
+ * stays as it was.
  *
  * What C owes, since no call can test it:
  *
  *  - No pointer is null. An array of length 0 has a pointer too. Pointers are aligned as their
  *    types are.
  *  - An array has as many elements as its length says, also one that is only written.
- *  - A mapdb_copy is MAPDB_EMPTY or as the last call left it. It is not copied: no
- *    two handles are of one copy.
+ *  - A mapdb_copy is MAPDB_EMPTY or as the last call left it. It is not copied: no two handles are
+ *    of one copy.
  *  - A mapdb_copy is in one call at a time. That holds for queries too, so readers of one copy lock
  *    it, or better, stay on its processor. Two calls at two copies may run at once, if the heap's
  *    functions may.
@@ -86,7 +98,7 @@ enum mapdb_status {
     MAPDB_BAD_SPACE = 4,         /* the number of a space is 2^16 or more */
     MAPDB_NOT_SERVED = 5,        /* the page is served from no frame */
     MAPDB_SPACE_ENDED = 6,       /* a space that the command names has ended */
-    MAPDB_ROOT_SPACE = 7,        /* a Map into a space of number 0, or the end of one */
+    MAPDB_ROOT_SPACE = 7,        /* a space of number 0 would receive a page, or end */
     MAPDB_NUMBERS_SPENT = 8,     /* a record would need a number of 2^40 or more */
     MAPDB_FULL = 9,              /* the copy would hold more than 65,536 operations */
     MAPDB_GRANT = 10,            /* the item's first word is that of a grant item */
@@ -108,7 +120,7 @@ enum mapdb_status {
     MAPDB_NO_ROOM = 26,          /* the array is too short; how long it is to be is told */
     MAPDB_NOT_JSON = 27,         /* the text is no JSON, or is nested deeper than 127 */
     MAPDB_SNAPSHOT_SHAPE = 28,   /* the JSON has not the shape of a snapshot */
-    MAPDB_SNAPSHOT_VERSION = 29  /* the snapshot has another version */
+    MAPDB_SNAPSHOT_VERSION = 29  /* the snapshot has another version than 1, 2 and 3 */
 };
 
 /* A name for a status, as "done"; "unknown" for a number that is none. It is a constant string. */
@@ -209,17 +221,22 @@ typedef struct mapdb_operation {
 
 /* What a command issued: 24 bytes. */
 typedef struct mapdb_issued {
-    /* 0: the number of a Map's first record, 0 where there is none. The numbers rise by one. */
+    /* 0: with MAPDB_DONE the number of a Map's first record, from which the numbers rise by one. 0
+     * of a Map that issued none, of other commands, and with any other status: with MAPDB_MEMORY
+     * too, where records may stand. */
     uint64_t first;
-    /* 8: how many operations were issued; with MAPDB_MEMORY these stand, and are not all. */
+    /* 8: how many operations were issued: with MAPDB_DONE all; with MAPDB_MEMORY the first of them,
+     * which stand, and are not all; 0 with any other status. */
     uint64_t count;
-    /* 16: with MAPDB_SPACE_ENDED the space that has, the sender before the receiver. */
+    /* 16: with MAPDB_SPACE_ENDED the space that has, the sender before the receiver; else 0 and 0.
+     */
     mapdb_space space;
 } mapdb_issued;
 
-/* What became of a batch: 32 bytes. */
+/* What became of a batch: 32 bytes. A field that says nothing of the status is 0. */
 typedef struct mapdb_taken {
-    /* 0: how many operations were new to the copy. */
+    /* 0: with MAPDB_DONE how many operations were new to the copy at their turn; 0 with any other
+     * status: with MAPDB_MEMORY too, where some may stand. */
     uint64_t count;
     /* 8: of a bad operation its place in the batch, from 0; with MAPDB_MEMORY of how many first
      * operations of the batch what is new stands, which are not all. */
@@ -270,12 +287,17 @@ MAPDB_NONNULL void mapdb_destroy(mapdb_copy *copy);
 /*
  * Commands. Each is done at once, at this copy, and issues operations that the kernel is to carry
  * to the other copies: they stand last in what mapdb_give and mapdb_give_own give. Faults are
- * looked for in the order of the arguments, then MAPDB_NO_COPY, and then in this order:
+ * looked for in the order of the arguments, of a page its place before its rights, then
+ * MAPDB_NO_COPY, and then in this order:
  *   MAPDB_SPACE_ENDED: a space has ended, as issued->space tells.
- *   MAPDB_ROOT_SPACE, MAPDB_NUMBERS_SPENT, MAPDB_FULL: nothing is issued.
- *   MAPDB_MEMORY: the first issued->count operations stand; they are not all.
- * Where an argument is refused, or there is no copy, *issued is not written. The statuses of a
- * place are MAPDB_TOO_SMALL, MAPDB_TOO_LARGE, MAPDB_OUT_OF_SPACE and MAPDB_UNALIGNED.
+ *   MAPDB_ROOT_SPACE, MAPDB_NUMBERS_SPENT: nothing is issued.
+ *   MAPDB_FULL: what is held and what would be new are more than 65,536. Nothing is issued.
+ *   MAPDB_MEMORY: the first issued->count operations stand, for good, and are to be carried; they
+ *     are not all. The same Unmap again issues the rest; the same Map again issues all its records
+ *     anew, under further names.
+ * Where an argument is refused, or there is no copy, *issued is not written; with any other status
+ * all of it is. The statuses of a place are, in this order, MAPDB_TOO_SMALL, MAPDB_TOO_LARGE,
+ * MAPDB_OUT_OF_SPACE and MAPDB_UNALIGNED.
  */
 
 /*
@@ -292,10 +314,10 @@ MAPDB_CALL uint32_t mapdb_map(mapdb_copy *copy, mapdb_space sender, uint64_t sen
 
 /*
  * Map, by the kernel's words of 64 bits. Of an item's first word the highest 54 bits are the send
- * base in units of 1024 bytes, six are 0, and the lowest four are 100C; of its second word the
- * highest 54 are the fpage's base in these units, six its size, one is 0, and the lowest three are
- * rwx. A window is as the second word, but its lowest four bits are not looked at. Base and size 0
- * are nil; base 0 and size 1 are the complete address space. Also:
+ * base in units of 1024 bytes, six are 0, and the lowest four are 100C, where C is not looked at;
+ * of its second word the highest 54 are the fpage's base in these units, six its size, one is 0,
+ * and the lowest three are rwx. A window is as the second word, but its lowest four bits are not
+ * looked at. Base and size 0 are nil; base 0 and size 1 are the complete address space. Also:
  *   MAPDB_BAD_SPACE; of the item MAPDB_GRANT, MAPDB_NOT_MAP_ITEM, MAPDB_RESERVED_BITS,
  *     MAPDB_RESERVED_BIT and those of a place; of the window those of a place.
  */
@@ -346,9 +368,11 @@ MAPDB_CALL uint32_t mapdb_end(mapdb_copy *copy, mapdb_space space, mapdb_issued 
  *     MAPDB_PAGE_OUT_OF_SPACE: the operation at taken->place is not well-formed. It is the first
  *     such one.
  *   MAPDB_CLASH: two different records have the name of taken->number and taken->processor.
- *   MAPDB_FULL
- *   MAPDB_MEMORY: what is new of the first taken->place operations stands; they are not all. It may
- *     be taken again.
+ *   MAPDB_FULL: what is held and what is new of the batch, as often as it stands there, are more
+ *     than 65,536.
+ *   MAPDB_MEMORY: what is new of the first taken->place operations stands; they are not all. Take
+ *     the batch again from that place on, or all of it, which comes to the same.
+ * But for MAPDB_NO_COPY, all of *taken is written.
  */
 MAPDB_CALL uint32_t mapdb_take(mapdb_copy *copy, const mapdb_operation *operations, size_t length,
     mapdb_taken *taken);
@@ -357,7 +381,7 @@ MAPDB_CALL uint32_t mapdb_take(mapdb_copy *copy, const mapdb_operation *operatio
  * Writes the operations that the copy holds, in order of arrival, from the mark first on and up to
  * before the mark end, into room, and how many they are into *count. Marks count from 0;
  * mapdb_counts tells where the list ends.
- *   MAPDB_NO_COPY, MAPDB_BAD_MARK, MAPDB_MEMORY: nothing is written.
+ *   MAPDB_NO_COPY, MAPDB_BAD_MARK, MAPDB_MEMORY: nothing is written, *count neither.
  *   MAPDB_NO_ROOM: *count, which is end - first, is above length. Nothing else is written.
  */
 MAPDB_CALL uint32_t mapdb_give(mapdb_copy *copy, uint32_t first, uint32_t end,
@@ -444,8 +468,9 @@ MAPDB_CALL uint32_t mapdb_snapshot(mapdb_copy *copy, uint8_t *room, size_t lengt
  * its ends.
  *   MAPDB_NO_COPY: *taken is not written.
  *   MAPDB_NOT_JSON, MAPDB_SNAPSHOT_SHAPE, MAPDB_SNAPSHOT_VERSION, or that of a place: nothing is
- *     changed.
- *   MAPDB_MEMORY: in place of any of these with nothing changed, or as of mapdb_take.
+ *     changed, and *taken is 0 throughout: it has no place.
+ *   MAPDB_MEMORY: in place of any of these, so too; or as of mapdb_take. The same text may be
+ *     loaded again.
  *   Else those of mapdb_take, with places of this order; here an operation's number is looked at
  *     before its processor: MAPDB_BAD_NUMBER, MAPDB_BAD_PROCESSOR, MAPDB_PARENT_NOT_BEFORE and on.
  */

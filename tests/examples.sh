@@ -1,8 +1,8 @@
 #!/usr/bin/env bash
-# Runs the examples that are more than a script: copies on several machines (examples/many-machines),
-# and the check of a kernel's log (examples/checking); and the commands that their texts show. The
-# program is L4MAP, or crates/l4map/out/l4map. The last line is `N passed, M failed`; the status is 0
-# only where none failed.
+# Runs the examples that are more than a script: copies on several machines
+# (examples/many-machines), and the check of a kernel's log (examples/checking); and the commands
+# that texts show. The program is L4MAP, or crates/l4map/out/l4map. The last line is
+# `N passed, M failed`; the status is 0 only where none failed.
 set -uo pipefail
 top=$(CDPATH= cd -- "$(dirname -- "$0")/.." && pwd)
 L4MAP=$(realpath -m -- "${L4MAP:-$top/crates/l4map/out/l4map}")
@@ -43,7 +43,8 @@ expect() {
 
 # The output that the README shows, and one that was written, without their numbers.
 is_shown() {
-    sed -n '/many-machines\/run.sh$/,/^$/{s/^    //p}' "$machines/README.md" | sed '1,2d;s/[0-9]\+/N/g' >"$folder/shown"
+    sed -n '/many-machines\/run.sh$/,/^$/{s/^    //p}' "$machines/README.md" |
+        sed '1,2d;s/[0-9]\+/N/g' >"$folder/shown"
     sed '1d;s/[0-9]\+/N/g' "$1" | diff "$folder/shown" - >"$folder/told"
 }
 

@@ -5,8 +5,8 @@
     tests/run.py fuzz [--minutes N | --count N] [--seed S]
 
 Runs these kinds of tests, or all: rows, dialogue, pictures, refusals, libraries, links, streams,
-hostile, fuzz and planted. Each tells what it ran, and how many cases passed and failed. The last line is the
-sum, `N passed, M failed`; the status is 0 only where none failed.
+hostile, fuzz and planted. Each tells what it ran, and how many cases passed and failed. The last
+line is the sum, `N passed, M failed`; the status is 0 only where none failed.
 """
 
 import argparse

@@ -8,7 +8,7 @@
 #include <stdio.h>
 #include <string.h>
 
-enum { ROUNDS = 8, BATCH = 16, CHANNEL = 512 };
+enum { ROUNDS = 8, BATCH = 16, CHANNEL = 512, TRIES = 100 };
 
 /*
  * A channel: operations as they stand, from one thread to the other. The lock is the kernel's, and
@@ -81,21 +81,45 @@ static size_t receive(channel *in, mapdb_operation *batch)
     return count;
 }
 
-/* Sends what the copy has issued since the last time. */
+/*
+ * Sends what the copy has issued since the last time. Where memory runs out, the same operations
+ * are asked for again: what was not given is not sent.
+ */
 static void send_own(processor *self)
 {
     mapdb_operation batch[BATCH];
     uint64_t count = 0;
-    uint32_t held, own;
+    uint32_t held = 0, own = 0, status = mapdb_counts(&self->copy, &held, &own);
 
-    expect(self, mapdb_counts(&self->copy, &held, &own), "counts");
-    while (self->sent < own) {
+    for (int tries = 0; self->sent < own && tries < TRIES;) {
         uint32_t end = own - self->sent > BATCH ? self->sent + BATCH : own;
 
-        expect(self, mapdb_give_own(&self->copy, self->sent, end, batch, BATCH, &count), "give");
-        send(self->out, batch, count);
-        self->sent = end;
+        status = mapdb_give_own(&self->copy, self->sent, end, batch, BATCH, &count);
+        if (status == MAPDB_DONE) {
+            send(self->out, batch, count);
+            self->sent = end;
+        } else
+            tries++;
     }
+    expect(self, status, "give");
+}
+
+/*
+ * Takes a batch, all of it. Where memory runs out in its middle, what is new of the first
+ * operations stands, and the others are taken from there on.
+ */
+static void take(processor *self, const mapdb_operation *batch, size_t count)
+{
+    mapdb_taken taken;
+    size_t first = 0;
+    uint32_t status = MAPDB_MEMORY;
+
+    for (int tries = 0; status == MAPDB_MEMORY && tries < TRIES; tries++) {
+        status = mapdb_take(&self->copy, batch + first, count - first, &taken);
+        if (status == MAPDB_MEMORY)
+            first += taken.place;
+    }
+    expect(self, status, "take");
 }
 
 /*
@@ -121,7 +145,6 @@ static void *run(void *argument)
 {
     processor *self = (processor *)argument;
     mapdb_operation batch[BATCH];
-    mapdb_taken taken;
     size_t count;
 
     for (uint32_t round = 0; round < ROUNDS; round++) {
@@ -130,7 +153,7 @@ static void *run(void *argument)
     }
     close_channel(self->out);
     while ((count = receive(self->in, batch)) != 0)
-        expect(self, mapdb_take(&self->copy, batch, count, &taken), "take");
+        take(self, batch, count);
     return NULL;
 }
 

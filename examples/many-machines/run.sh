@@ -1,7 +1,7 @@
 #!/usr/bin/env bash
-# Three machines that tell each other what they issue over a Redis stream; see README.md. Two of them break
-# off and are started again. Ends with three equal snapshots, or with status 1; with 77 where there is no
-# redis-server. Takes less than a minute, and stops all that it started.
+# Three machines that tell each other what they issue over a Redis stream; see README.md. Two of
+# them break off and are started again. Ends with three equal snapshots, or with status 1; with 77
+# where there is no redis-server. Takes less than a minute, and stops all that it started.
 set -uo pipefail
 export PYTHONDONTWRITEBYTECODE=1
 here=$(CDPATH= cd -- "$(dirname -- "$0")" && pwd)
@@ -21,7 +21,8 @@ broker=
 port=
 machines=(0 0 0)
 
-# Stops what is still running, by its number, and waits until it is gone. Each l4map ends with its machine.
+# Stops what is still running, by its number, and waits until it is gone. Each l4map ends with its
+# machine.
 stop_all() {
     for machine in "${machines[@]}"; do
         [[ $machine -eq 0 ]] || kill -KILL "$machine"

@@ -432,7 +432,10 @@ static void asking_without_memory(void)
     mapdb_destroy(&other);
 }
 
-/* How a copy stands whose second map had a request refused: what it answers, and its blocks then and after one operation more. */
+/*
+ * How a copy stands whose second map had a request refused: what it answers, and its blocks then
+ * and after one operation more.
+ */
 typedef struct standing {
     uint32_t status;
     bool reached;
@@ -474,8 +477,8 @@ static standing mapped_with(unsigned long refused)
 }
 
 /*
- * Where the index can't have memory, no call fails for it: it lets go of what it has, answers are as
- * ever, and the next operation has it there again.
+ * Where the index can't have memory, no call fails for it: it lets go of what it has, answers are
+ * as ever, and the next operation has it there again.
  */
 static void without_an_index(void)
 {
@@ -630,6 +633,122 @@ static void refusing(void)
            refused - 2, absorbed);
 }
 
+enum { CARRIED = 24, PIECES = 12 };
+
+/* Maps so many pieces of physical memory to one place of space 1, each in a record of its own. */
+static void map_pieces(mapdb_copy *copy, uint32_t count)
+{
+    mapdb_issued issued;
+    uint32_t piece;
+
+    for (piece = 1; piece <= count; piece++)
+        CHECK(map(copy, root, fpage(0x10000 * piece, 14, MAPDB_READ | MAPDB_WRITE), one, &issued),
+              MAPDB_DONE);
+}
+
+static uint32_t own_of(mapdb_copy *copy)
+{
+    uint32_t held = 77, own = 77;
+
+    CHECK(mapdb_counts(copy, &held, &own), MAPDB_DONE);
+    return own;
+}
+
+/*
+ * Takes a batch with one request for memory refused, and goes on behind what stands, so that no
+ * operation is left out. It answers of how many operations what was new stood then.
+ */
+static size_t carried_with(const mapdb_operation *batch, unsigned long refused)
+{
+    mapdb_copy copy = created(1);
+    mapdb_taken taken;
+    uint32_t status, held = 77, own = 77;
+    size_t first = 0;
+
+    heap_requests = 0;
+    heap_refused = refused;
+    while ((status = mapdb_take(&copy, batch + first, CARRIED - first, &taken)) == MAPDB_MEMORY) {
+        CHECK(taken.count == 0 && taken.number == 0 && taken.processor == 0, 1);
+        CHECK(taken.place < CARRIED - first, 1);
+        first += taken.place;
+        CHECK(mapdb_counts(&copy, &held, &own), MAPDB_DONE);
+        CHECK(held, first);
+    }
+    heap_refused = 0;
+    CHECK(status, MAPDB_DONE);
+    CHECK(taken.place == 0 && first + taken.count == CARRIED, 1);
+    mapdb_destroy(&copy);
+    return first;
+}
+
+/* A batch in whose middle memory runs out. */
+static void carrying(void)
+{
+    mapdb_copy source = created(0);
+    mapdb_operation batch[CARRIED];
+    unsigned long refused = 0, parted = 0;
+    uint64_t count = 0;
+
+    map_pieces(&source, CARRIED);
+    CHECK(mapdb_give(&source, 0, CARRIED, batch, CARRIED, &count), MAPDB_DONE);
+    do
+        parted += carried_with(batch, ++refused) != 0;
+    while (heap_requests >= refused);
+    CHECK(parted > 0, 1);
+    mapdb_destroy(&source);
+}
+
+/*
+ * Hands pieces on in one Map and takes them back in one Unmap, each with one request for memory
+ * refused. It adds up how often a part of either stood.
+ */
+static unsigned long issued_with(unsigned long refused, bool *reached)
+{
+    const mapdb_fpage whole = fpage(0x40000, 16, MAPDB_READ | MAPDB_WRITE);
+    mapdb_copy copy = created(0);
+    mapdb_issued issued;
+    unsigned long parted = 0;
+    uint32_t status, records;
+    uint64_t first;
+
+    map_pieces(&copy, PIECES);
+    heap_requests = 0;
+    heap_refused = refused;
+    status = mapdb_map(&copy, one, 0, &whole, two, &whole, &issued);
+    *reached = heap_requests >= refused;
+    records = own_of(&copy) - PIECES;
+    CHECK(status == MAPDB_DONE || status == MAPDB_MEMORY, 1);
+    CHECK(issued.count, records);
+    CHECK(issued.first, status == MAPDB_DONE ? PIECES + 1 : 0);
+    CHECK(status == MAPDB_DONE ? records == PIECES : records < PIECES, 1);
+    parted += status == MAPDB_MEMORY && records != 0;
+    heap_requests = 0;
+    status = mapdb_unmap(&copy, one, &whole, 0, &issued);
+    *reached = *reached || heap_requests >= refused;
+    heap_refused = 0;
+    first = issued.count;
+    CHECK(own_of(&copy), PIECES + records + first);
+    CHECK(status == MAPDB_DONE ? first == records : first < records, 1);
+    parted += status == MAPDB_MEMORY && first != 0;
+    /* The same Unmap again issues the rest, and no more. */
+    CHECK(mapdb_unmap(&copy, one, &whole, 0, &issued), MAPDB_DONE);
+    CHECK(issued.first == 0 && first + issued.count == records, 1);
+    mapdb_destroy(&copy);
+    return parted;
+}
+
+/* Commands in whose middle memory runs out. */
+static void issuing(void)
+{
+    unsigned long refused = 0, parted = 0;
+    bool reached;
+
+    do
+        parted += issued_with(++refused, &reached);
+    while (reached);
+    CHECK(parted > 0, 1);
+}
+
 int main(void)
 {
     no_copy();
@@ -649,6 +768,8 @@ int main(void)
     names();
     CHECK(heap_blocks, 0);
     refusing();
+    carrying();
+    issuing();
     CHECK(heap_blocks, 0);
     printf("calls: %d passed, %d failed\n", passed, failed);
     return failed != 0;

@@ -3,8 +3,9 @@
 
     tests/c/compare.py --driver PATH [--program PATH] [--count N] [--seed S]
 
-The driver is tests/c/script.c, compiled. It takes well-spelled scripts without `tree`, so lines `tree` are left out of
-each script, and so is what stands from its first faulty line on. The last line is `N passed, M failed`.
+The driver is tests/c/script.c, compiled. It takes well-spelled scripts without `tree`, so lines
+`tree` are left out of each script, and so is what stands from its first faulty line on. The last
+line is `N passed, M failed`.
 """
 
 import argparse
@@ -18,6 +19,7 @@ sys.path.insert(0, TESTS)
 from maker.scripts import case_of  # noqa: E402
 
 SHOWN = 3
+SECONDS = 120
 
 
 def options() -> argparse.Namespace:
@@ -34,14 +36,16 @@ def options() -> argparse.Namespace:
 
 
 def replies(command: list[str], text: bytes) -> tuple[int, bytes]:
-    done = subprocess.run(command, input=text, stdout=subprocess.PIPE, stderr=subprocess.DEVNULL, timeout=120)
+    done = subprocess.run(
+        command, input=text, stdout=subprocess.PIPE, stderr=subprocess.DEVNULL, timeout=SECONDS
+    )
     return done.returncode, done.stdout
 
 
 def without_trees(text: bytes) -> bytes:
     """The lines but those that ask the tree."""
     lines = text.replace(b"\r\n", b"\n").split(b"\n")
-    return b"\n".join(line for line in lines if line.split(b" ")[:1] != [b"tree"] and b"tree" not in line[:12])
+    return b"\n".join(line for line in lines if line.split()[:1] != [b"tree"])
 
 
 def script_of(seed: int, program: str) -> bytes:
@@ -72,7 +76,8 @@ def main() -> int:
             else:
                 failed += 1
                 if failed <= SHOWN:
-                    print("seed %d: the driver's status is %d, the program's %d, or replies differ" % (seed, found[0], wanted[0]))
+                    print("seed %d: the driver's status is %d, the program's %d, or replies differ"
+                          % (seed, found[0], wanted[0]))
         seed += 1
     print("%d passed, %d failed" % (passed, failed))
     return 1 if failed else 0

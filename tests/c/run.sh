@@ -1,7 +1,8 @@
 #!/bin/sh
 # Builds the archive, compiles the header, the examples and the tests with all warnings as errors,
 # and runs them: as C99, C17 and C++17, under the address and undefined-behaviour sanitizers, under
-# valgrind where it is there, and by scripts against l4map. The last line is 'N passed, M failed'.
+# valgrind where it is there, from installations where make is there, and by scripts against l4map.
+# The last line is 'N passed, M failed'.
 # Use: tests/c/run.sh, anywhere; with an archive that is built: ARCHIVE=FILE tests/c/run.sh; with
 # more random scripts: RANDOM_SCRIPTS=10000 tests/c/run.sh
 set -u
@@ -64,13 +65,15 @@ for compiler in gcc clang; do
     command -v $compiler >/dev/null 2>&1 || continue
     for file in $c_files; do
         for standard in c99 c17; do
-            try "$compiler $standard $file" $compiler -std=$standard $warnings -Wstrict-prototypes -Wconversion \
-                -Wno-sign-conversion -O2 -Iinclude -fsyntax-only "$file"
+            try "$compiler $standard $file" $compiler -std=$standard $warnings -Wstrict-prototypes \
+                -Wconversion -Wno-sign-conversion -O2 -Iinclude -fsyntax-only "$file"
         done
-        try "$compiler c++17 $file" $compiler -x c++ -std=c++17 $warnings -O2 -Iinclude -fsyntax-only "$file"
+        try "$compiler c++17 $file" $compiler -x c++ -std=c++17 $warnings -O2 -Iinclude \
+            -fsyntax-only "$file"
     done
     echo '#include "mapdb.h"' >"$build/header.c"
-    try "$compiler freestanding header" $compiler -std=c99 -ffreestanding $warnings -Iinclude -fsyntax-only "$build/header.c"
+    try "$compiler freestanding header" $compiler -std=c99 -ffreestanding $warnings -Iinclude \
+        -fsyntax-only "$build/header.c"
 done
 
 # The same programs in C and in C++, plain and under the sanitizers.
@@ -91,7 +94,8 @@ for way in plain sanitized; do
         compiled orders_$way gcc $flags tests/c/orders.c c/mapdb_heap.c
         compiled script_$way gcc $flags tests/c/script.c c/mapdb_heap.c
         try "the heap, $way" gcc $flags -c -o "$build/heap_$way.o" tests/c/counting_heap.c
-        compiled calls_cpp_$way g++ -std=c++17 $flags -x c++ tests/c/calls.c -x none "$build/heap_$way.o"
+        compiled calls_cpp_$way g++ -std=c++17 $flags -x c++ tests/c/calls.c \
+            -x none "$build/heap_$way.o"
     }
     try "smallest, $way" "$build/smallest_$way"
     for turn in 1 2 3 4 5; do
@@ -108,15 +112,32 @@ try "what calls cost" "$build/costs"
 
 # A program with no C library at all.
 freestanding() {
-    gcc -std=c17 -O2 $warnings -ffreestanding -fno-builtin -fno-stack-protector -nostdlib -static -Iinclude \
-        -o "$build/freestanding" tests/c/freestanding.c "$ARCHIVE" && "$build/freestanding"
+    gcc -std=c17 -O2 $warnings -ffreestanding -fno-builtin -fno-stack-protector -nostdlib -static \
+        -Iinclude -o "$build/freestanding" tests/c/freestanding.c "$ARCHIVE" &&
+        "$build/freestanding"
 }
 try "freestanding" freestanding
 
+# What is installed says where it is, though another folder was named before, and is enough to build
+# and run a program.
+installed() {
+    for folder in first second; do
+        there=$build/$folder
+        make -s -o "$ARCHIVE" ARCHIVE="$ARCHIVE" BUILT="$build/made" DESTDIR= PREFIX="$there" \
+            install || return 1
+        grep -qx "prefix=$there" "$there/lib/pkgconfig/mapdb.pc" || return 1
+        gcc -O2 -I"$there/include" examples/c/smallest.c -L"$there/lib" -lmapdb_c -lmapdb_heap \
+            -o "$build/installed_$folder" && "$build/installed_$folder" || return 1
+    done
+}
+if command -v make >/dev/null 2>&1; then
+    try "installations" installed
+fi
+
 if command -v valgrind >/dev/null 2>&1; then
     for program in smallest_plain two_processors_plain calls_plain orders_plain; do
-        try "$program under valgrind" valgrind -q --leak-check=full --errors-for-leak-kinds=all --error-exitcode=9 \
-            "$build/$program"
+        try "$program under valgrind" valgrind -q --leak-check=full \
+            --errors-for-leak-kinds=all --error-exitcode=9 "$build/$program"
     done
 fi
 
@@ -140,13 +161,15 @@ for script in tests/c/scripts/*.l4; do
 done
 
 if [ -x "$tool" ] && command -v python3 >/dev/null 2>&1; then
-    try "random scripts as l4map runs them" python3 tests/c/compare.py --driver "$build/script_plain" --program "$tool" \
-        --count "${RANDOM_SCRIPTS:-1000}"
+    try "random scripts as l4map runs them" python3 tests/c/compare.py \
+        --driver "$build/script_plain" --program "$tool" --count "${RANDOM_SCRIPTS:-1000}"
 fi
 
 if command -v cargo >/dev/null 2>&1; then
     rust() {
-        cd bindings/rust && MAPDB_ARCHIVE=$(dirname "$ARCHIVE") CARGO_TARGET_DIR=$build/rust cargo test --offline -q
+        cd bindings/rust &&
+            MAPDB_ARCHIVE=$(dirname "$ARCHIVE") CARGO_TARGET_DIR=$build/rust \
+                cargo test --offline -q
     }
     try "the crate for Rust" rust
 fi

@@ -33,15 +33,16 @@ def comes(running: subprocess.Popen, wanted: bytes) -> bytes:
 
 
 def dialogue(program: Program, script: Script) -> Iterator[Met]:
-    """Writes the lines of a script one by one into a pipe, and reads the answer to each before the next, up to the first that does
-    not come."""
+    """Writes the lines of a script one by one into a pipe, and reads the answer to each before the
+    next, up to the first that does not come."""
     command = [program.path] + script.arguments
     with subprocess.Popen(command, stdin=subprocess.PIPE, stdout=subprocess.PIPE) as running:
         for number, (line, wanted) in enumerate(answers(script.source), 1):
             running.stdin.write(line)
             running.stdin.flush()
             found = comes(running, wanted)
-            yield Met(found == wanted, "%s, the answer to line %d" % (script.name, number), repr(found))
+            name = "%s, the answer to line %d" % (script.name, number)
+            yield Met(found == wanted, name, repr(found))
             if found != wanted:
                 break
         running.stdin.close()
@@ -53,4 +54,6 @@ def run_dialogues(program: Program) -> Tally:
     scripts = [script for script in examples() if script.arguments == ["run"]]
     for script in scripts:
         tally.check_all(dialogue(program, script))
-    return tally.end("%d scripts, each line written once the answer to the line before was read" % len(scripts))
+    return tally.end(
+        "%d scripts, each line written once the answer to the line before was read" % len(scripts)
+    )

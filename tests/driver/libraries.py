@@ -127,7 +127,9 @@ def run_libraries(interposer: Interposer, jobs: int, program: Optional[Program] 
     """Refuses each allocation and each thread of the calls, alone and with all behind it."""
     program = program or Program(BUILT)
     if not program.is_there():
-        return Tally("libraries").skip("%s is not there; rt ci builds it" % program.path)
+        tally = Tally("libraries")
+        tally.check(Met(False, "the program", "%s is not there; rt ci builds it" % program.path))
+        return tally.end("nothing")
     return judge(list(runs_of(interposer, program, jobs)))
 
 

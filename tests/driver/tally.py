@@ -40,7 +40,7 @@ class Tally:
             self.check(met)
 
     def skip(self, why: str) -> "Tally":
-        """Tells that all cases are left out, and why."""
+        """Tells that cases are left out, and why."""
         print("%s: skipped: %s" % (self.kind, why), flush=True)
         return self
 

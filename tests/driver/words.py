@@ -20,6 +20,8 @@ USAGE = {
 }
 USAGES = "\n\nUsage: %s\n" % "\n       ".join(USAGE.values())
 NO_CAPACITY = "error: the capacity of a link is a number from 1 to 1024" + USAGES
+# The name is that of the program's file.
+WORDLESS = re.compile(b"error: '[^']*' requires a subcommand but one was not provided")
 CAPACITIES = ["0", "1025", "x", "+1"]
 SPACES = ["", "x", "-", "0x1", "1.", ".1", "1.x", "1.2.3", "65536", "1.4294967296", "1,2", "1e0",
           "1:0", "\u0661", "9" * 21, "#", "all", "1 ", " 1", "1 41000"]
@@ -40,7 +42,6 @@ def all_refused() -> list[tuple[list[str], str]]:
         (["picture", "1"], "error: unexpected argument '1' found\n"),
         (["picture", "--svg"], "error: unexpected argument '--svg' found\n"),
         (["pictures"], "error: unrecognized subcommand 'pictures'\n"),
-        ([], "error: 'l4map' requires a subcommand but one was not provided"),
         (["walk"], "error: unrecognized subcommand 'walk'\n"),
         (["run", "script"], "error: unexpected argument 'script' found\n"),
         (["threads", "script"], "error: unexpected argument 'script' found\n"),
@@ -55,6 +56,9 @@ def refused_words(program: Program) -> Iterator[Met]:
         found = run_on_folder(program, arguments)
         holds = (found.status, found.output) == (2, b"") and is_refusal(found.errors, begin)
         yield Met(holds, "words %r" % arguments, str(found))
+    found = run_on_folder(program, [])
+    holds = (found.status, found.output) == (2, b"") and WORDLESS.match(found.errors) is not None
+    yield Met(holds and is_refusal(found.errors, "error: "), "no words", str(found))
     for arguments in (["explain", "1", "\udcff"], ["\udcff"], ["run", "\udcc3"]):
         found = run_on_folder(program, arguments)
         wanted = Outcome(2, b"", b"l4map: the command line is not UTF-8\n")

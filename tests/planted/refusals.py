@@ -1,4 +1,5 @@
-"""Faults that `refusals` has to report: running out of memory that is not told, or told otherwise."""
+"""Faults that `refusals` has to report: running out of memory that is not told, or is told
+otherwise."""
 
 from driver.program import NO_MEMORY, Outcome
 from driver.refusals import Series, refuse_all, run_refusals

@@ -23,7 +23,8 @@ pub enum IssueError {
     Refused(Status),
     /// This space has ended. Nothing is issued.
     SpaceEnded(Space),
-    /// Memory ran out. So many first operations stand; they are not all.
+    /// Memory ran out. So many first operations stand, for good, and are to be carried; they are
+    /// not all.
     Memory { issued: u64 },
 }
 
@@ -31,11 +32,12 @@ pub enum IssueError {
 #[derive(Clone, Copy, Debug, PartialEq, Eq)]
 pub enum TakeError {
     /// For this, with nothing changed. Of an operation that is none, or not well-formed, with its
-    /// place in the batch.
+    /// place in the batch; else with place 0, also for the text of a snapshot that is none.
     Refused { status: Status, place: u64 },
     /// Two different records have this name. Nothing is changed.
     Clash { number: u64, processor: u32 },
-    /// Memory ran out. What is new of so many first operations stands; they are not all.
+    /// Memory ran out. What is new of so many first operations stands; they are not all. The batch
+    /// is to be taken again from that place on, or all of it.
     Memory { taken: u64 },
 }
 
