@@ -1,6 +1,6 @@
 -- The changes of one record, in a list or in a map.
-use Rattle.std.specs.Prelude.{◌≡◌, ℕ, ◌<◌, ◌≤◌, Bool, true, ◌&&◌, nat_eq, nat_le, nat_lt, List, []}
-use Rattle.std.specs.Prelude.{◌∷◌, length, take, get_or, Option, Some, None, if◌then◌else◌}
+use Rattle.std.specs.Prelude.{◌≡◌, ℕ, ◌<◌, ◌≤◌, nat_eq, List, [], ◌∷◌}
+use Rattle.std.specs.Prelude.{Option, Some, None, if◌then◌else◌}
 use Rattle.std.specs.BTreeMap.{BTreeMap, is_at}
 use Rattle.std.specs.Map.{lookup}
 use Rattle.std.specs.Ordering.{nat_cmp}
@@ -29,7 +29,7 @@ mapped_change map page = lookup (is_at (nat_cmp page)) map.entries
 
 -- the change of the record at a page
 abbrev pub own_change : OwnChanges → ℕ → Option Change
-own_change (Few list) page = listed_change list.items page
+own_change (Few list) page = listed_change list page
 own_change (Many map) page = mapped_change map page
 
 -- the last change up to a page, with the page where it stands
@@ -46,19 +46,3 @@ IsLastUpTo at page (Some last) = IsLastChange at page last
 -- between a page and an end there is no change
 abbrev pub IsNoneUntil : (ℕ → Option Change) → ℕ → ℕ → Type 0
 IsNoneUntil at page end = (q : ℕ) → page < q → q < end → at q ≡ None
-
--- the page comes behind that of the change that was found, if one was
-abbrev pub is_later : Option (ℕ × Change) → ℕ → Bool
-is_later None page = true
-is_later (Some found) page = nat_lt found.0 page
-
--- the later of the change that was found and the next, where it stands no further than the page
-abbrev pub with_last : ℕ → PageChange → Option (ℕ × Change) → Option (ℕ × Change)
-with_last page next found = if is_later found next.page && nat_le next.page page
-    then Some (next.page, next.change) else found
-
--- the first change of the list at the page stands there
-pub record IsFirstAt (list : List PageChange) (page at : ℕ) : Type 0 where
-  pub inside : at < length list
-  pub none : listed_change (take at list) page ≡ None
-  pub here : (other : PageChange) → (get_or list at other).page ≡ page

@@ -2,6 +2,7 @@
 //! others: the rights of records at pages, and where each record stands.
 
 mod building;
+mod change_lists;
 mod changes;
 mod children;
 mod few_changes;

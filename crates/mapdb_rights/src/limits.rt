@@ -1,6 +1,6 @@
 //! How long the lists of an index may be, and how many orders it has bits for.
 
-/// How many changes are looked through one by one; more stand in a map.
+/// How many changes stand in a list that is halved; more stand in a map.
 pub(crate) const FEW_CHANGES: usize = 32;
 
 /// How many places are looked through one by one; more stand in their order.

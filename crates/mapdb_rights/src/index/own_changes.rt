@@ -7,21 +7,18 @@ ghost use Rattle.mapdb_rights.specs.Changes.{IsRewritten, IsStretch, left_before
 ghost use Rattle.mapdb_rights.specs.OwnChanges.{IsLastUpTo, IsNoneUntil, own_change};
 
 use super::changes::{Change, Stretch};
-use super::few_changes::{
-    PageChange, few_at, few_last, few_next, few_put, few_remove, few_stretch, map_of,
-};
+use super::few_changes::FewChanges;
 use super::many_changes::{many_last, many_next, many_stretch};
 use crate::limits::FEW_CHANGES;
 use mapdb_fpage::PAGE_LIMIT;
-use smallvec::SmallVec;
 use std::alloc::{AllocError, Global};
 use std::collections::BTreeMap;
 
 /// All changes of a record.
 #[derive(Drop)]
 pub enum OwnChanges {
-    /// A few, as they came.
-    Few(SmallVec<PageChange, 2>),
+    /// A few, in a list.
+    Few(FewChanges),
     /// Many, by page.
     Many(BTreeMap<u64, Change>),
 }
@@ -31,7 +28,7 @@ impl OwnChanges {
     pub(crate) fn new(alloc: Global) -> OwnChanges
         ensures { (page : ℕ) → own_change result page ≡ None }
     {
-        OwnChanges::Few(SmallVec::new(alloc))
+        OwnChanges::Few(FewChanges::new(alloc))
     }
 
     /// The last change up to a page, and where it stands.
@@ -39,7 +36,7 @@ impl OwnChanges {
         ensures { IsLastUpTo (own_change self.now) page result }
     {
         match self {
-            OwnChanges::Few(list) => few_last(list.as_slice(), page),
+            OwnChanges::Few(few) => few.last(page),
             OwnChanges::Many(map) => many_last(map, page),
         }
     }
@@ -52,7 +49,7 @@ impl OwnChanges {
         ensures none { IsNoneUntil (own_change self.now) page result }
     {
         match self {
-            OwnChanges::Few(list) => few_next(list.as_slice(), page),
+            OwnChanges::Few(few) => few.next(page),
             OwnChanges::Many(map) => many_next(map, page),
         }
     }
@@ -62,7 +59,7 @@ impl OwnChanges {
         ensures { result ≡ own_change self.now page }
     {
         match self {
-            OwnChanges::Few(list) => few_at(list.as_slice(), page),
+            OwnChanges::Few(few) => few.at(page),
             OwnChanges::Many(map) => map.get(&page).copied(),
         }
     }
@@ -86,7 +83,7 @@ impl OwnChanges {
         ensures { IsStretch (own_change self.now) first page result }
     {
         match self {
-            OwnChanges::Few(list) => few_stretch(list.as_slice(), first, page),
+            OwnChanges::Few(few) => few.stretch(first, page),
             OwnChanges::Many(map) => many_stretch(map, first, page),
         }
     }
@@ -99,8 +96,8 @@ impl OwnChanges {
             ≡ own_change self.now page)) }
     {
         match self {
-            OwnChanges::Few(list) if list.len() >= FEW_CHANGES => {
-                let map = map_of(alloc, list.as_slice())?;
+            OwnChanges::Few(few) if few.len() >= FEW_CHANGES => {
+                let map = few.to_map(alloc)?;
                 Ok(Some(map))
             }
             _ => Ok(None),
@@ -125,7 +122,7 @@ impl OwnChanges {
             ≡ (if nat_eq page q then Some change else own_change self.old q)) }
     {
         match self {
-            OwnChanges::Few(list) => few_put(list, page, change),
+            OwnChanges::Few(few) => few.put(page, change),
             OwnChanges::Many(map) => {
                 map.insert(page, change)?;
                 Ok(())
@@ -148,7 +145,7 @@ impl OwnChanges {
             ≡ (if nat_eq page q then None else own_change self.old q) }
     {
         match self {
-            OwnChanges::Few(list) => few_remove(list, page),
+            OwnChanges::Few(few) => few.remove(page),
             OwnChanges::Many(map) => {
                 map.remove(&page);
             }

@@ -1,5 +1,5 @@
 use Rattle.mapdb_rights.proofs.Changes.FewChanges.{mapped_step}
-use Rattle.mapdb_rights.proofs.index.few_changes.map_of.Goals as goal
+use Rattle.mapdb_rights.proofs.index.change_lists.map_of.Goals as goal
 
 pub loop-next-preserved : goal.loop-next-preserved
 loop-next-preserved c =

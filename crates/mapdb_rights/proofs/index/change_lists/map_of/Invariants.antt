@@ -1,6 +1,6 @@
 use Rattle.std.proofs.Common.{◌≡◌, ℕ, take}
 use Rattle.mapdb_rights.specs.OwnChanges.{listed_change, mapped_change}
-use Rattle.mapdb_rights.proofs.index.few_changes.map_of.Given as goal
+use Rattle.mapdb_rights.proofs.index.change_lists.map_of.Given as goal
 
 -- the changes so far
 abbrev pub invariant-loop-next : goal.invariant-loop-next
