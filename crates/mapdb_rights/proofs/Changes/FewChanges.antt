@@ -130,21 +130,6 @@ module _ (list : List PageChange) (rise : PagesRise list) where
           let no : ⊥ = omega (arith, l, e, same, before) in no
     ])
 
-    -- in front of the spot at another page: there the page is missing
-    pub gap_at : ((d : PageChange) → 0 < spot → (get_or list (spot - 1) d).page ≡ page → ⊥) → IsGap list page spot
-    gap_at apart = record {
-      inside = is.inside;
-      front = λ k d low.
-          let inside : spot ≤ length list = is.inside in
-          let l : (get_or list k d).page ≤ (get_or list (spot - 1) d).page = no_later k (spot - 1) d (omega (arith, low)) (omega (arith, low, inside)) in
-          let u : (get_or list (spot - 1) d).page ≤ page = is.up_to (spot - 1) d (omega (arith, low)) in
-          elim (same_or_less (get_or list (spot - 1) d).page page u) [
-            | inl same ↦ absurd (apart d (omega (arith, low)) same)
-            | inr less ↦ omega (arith, l, less)
-          ];
-      behind = is.behind;
-    }
-
   -- ---- one less
 
   module _ (page at : ℕ) (there : StandsAt list page at) where
