@@ -8,7 +8,7 @@ use Rattle.std.specs.List.Sorted.{IsNonDecreasingBy, IsPartitionPoint, IsPartiti
 use Rattle.std.proofs.Math.Seq.{take-append_seam}
 use Rattle.std.proofs.lemmas.Bool.{cases_Bool, cond-false, cond-true, eq-eqb, eqb-true, false≢true, leb-false, leb-true}
 use Rattle.std.proofs.lemmas.Grind.{get_or-set_at}
-use Rattle.std.proofs.lemmas.List.{get_or_default, get_or-set_other, length-set, take_more}
+use Rattle.std.proofs.lemmas.List.{get_or_default, get_or-set_other, get_or-take, length-set, length-take-le, take_more}
 use Rattle.std.proofs.lemmas.List.Edits.{get_or-insert_above, get_or-insert_at, get_or-insert_below, get_or-remove_above, get_or-remove_below, length-insert, length-remove}
 use Rattle.std.proofs.lemmas.List.Sorted.{IsPartitionedBy-leb}
 use Rattle.mapdb_rights.specs.declared.index.changes.Change.{Change}
@@ -129,21 +129,6 @@ module _ (list : List PageChange) (rise : PagesRise list) where
           let e : end ≤ (get_or list spot d).page = up_to d (omega (arith, up, inside)) in
           let no : ⊥ = omega (arith, l, e, same, before) in no
     ])
-
-    -- in front of the spot at another page: there the page is missing
-    pub gap_at : ((d : PageChange) → 0 < spot → (get_or list (spot - 1) d).page ≡ page → ⊥) → IsGap list page spot
-    gap_at apart = record {
-      inside = is.inside;
-      front = λ k d low.
-          let inside : spot ≤ length list = is.inside in
-          let l : (get_or list k d).page ≤ (get_or list (spot - 1) d).page = no_later k (spot - 1) d (omega (arith, low)) (omega (arith, low, inside)) in
-          let u : (get_or list (spot - 1) d).page ≤ page = is.up_to (spot - 1) d (omega (arith, low)) in
-          elim (same_or_less (get_or list (spot - 1) d).page page u) [
-            | inl same ↦ absurd (apart d (omega (arith, low)) same)
-            | inr less ↦ omega (arith, l, less)
-          ];
-      behind = is.behind;
-    }
 
   -- ---- one less
 
@@ -347,9 +332,27 @@ listed_step : (list : List PageChange) (i : ℕ) (d : PageChange) (q : ℕ) → 
     → listed_change (take (i + 1) list) q ≡ or_change (listed_change (take i list) q) (one_change (get_or list i d) q)
 listed_step list i d q inside = ap (λ (done : List PageChange). listed_change done q) (take_more list i d inside) ∙ listed_more (take i list) (get_or list i d) q
 
--- the changes so far in a map, and with one more
-pub mapped_step : (list : List PageChange) (i : ℕ) (d : PageChange) (old new : BTreeMap ℕ Change) → i < length list
-    → ((q : ℕ) → mapped_change new q ≡ or_change (mapped_change old q) (one_change (get_or list i d) q))
+-- the changes so far in a map, and with one more, which none of them is at the page of
+pub mapped_step : (list : List PageChange) → PagesRise list → (i : ℕ) (d : PageChange) (old new : BTreeMap ℕ Change) → i < length list
+    → ((q : ℕ) → mapped_change new q ≡ (if nat_eq (get_or list i d).page q then Some (get_or list i d).change else mapped_change old q))
     → ((q : ℕ) → mapped_change old q ≡ listed_change (take i list) q) → (q : ℕ) → mapped_change new q ≡ listed_change (take (i + 1) list) q
-mapped_step list i d old new inside put h q =
-    put q ∙ ap (λ (found : Option Change). or_change found (one_change (get_or list i d) q)) (h q) ∙ sym (listed_step list i d q inside)
+mapped_step list rise i d old new inside put h q = put q ∙ by (nat_eq (get_or list i d).page q) refl ∙ sym (listed_step list i d q inside)
+  where
+    none : (get_or list i d).page ≡ q → listed_change (take i list) q ≡ None
+    none here = listed_none (take i list) q (λ k f within at_q.
+        let long : length (take i list) ≡ i = length-take-le i list (omega (arith, inside)) in
+        let short : k < i = omega (arith, long, within) in
+        let less : (get_or list k f).page < (get_or list i f).page = rise k i f short inside in
+        let same : (get_or (take i list) k f).page ≡ (get_or list k f).page = page_of (get_or (take i list) k f) (get_or list k f) (get_or-take i list k f short) in
+        let one : (get_or list i f).page ≡ (get_or list i d).page = page_of (get_or list i f) (get_or list i d) (get_or_default list i f d inside) in
+        let no : ⊥ = omega (arith, less, same, one, here, at_q) in no)
+
+    last : (o : Option Change) → o ≡ or_change o None
+    last None = refl
+    last (Some c) = refl
+
+    by : (b : Bool) → nat_eq (get_or list i d).page q ≡ b → (if b then Some (get_or list i d).change else mapped_change old q)
+        ≡ or_change (listed_change (take i list) q) (if b then Some (get_or list i d).change else None)
+    by true same =
+        sym (ap (λ (found : Option Change). or_change found (Some (get_or list i d).change)) (none (eqb-true (get_or list i d).page q same)))
+    by false other = h q ∙ last (listed_change (take i list) q)

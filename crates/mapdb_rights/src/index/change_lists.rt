@@ -4,12 +4,13 @@ ghost use Rattle.std.specs.Prelude.{◌≡◌, ◌≤◌, ◌<◌, ℕ, Some, No
 ghost use Rattle.std.specs.Prelude.{get_or, length, nat_eq, slice_set, if◌then◌else◌};
 ghost use Rattle.mapdb_rights.specs.Changes.{IsStretch};
 ghost use Rattle.mapdb_rights.specs.OwnChanges.{IsLastUpTo, IsNoneUntil, listed_change};
-ghost use Rattle.mapdb_rights.specs.OwnChanges.{mapped_change, one_change, or_change};
+ghost use Rattle.mapdb_rights.specs.OwnChanges.{mapped_change};
 ghost use Rattle.mapdb_rights.specs.PageOrder.{IsGap, IsSpot, PagesRise, StandsAt};
 ghost use Rattle.mapdb_rights.specs.declared.index.few_changes.PageChange.{PageChange};
 
 use super::changes::{Change, Stretch};
 use super::few_changes::PageChange;
+use super::many_changes::many_put;
 use mapdb_fpage::PAGE_LIMIT;
 use smallvec::SmallVec;
 use std::alloc::{AllocError, Global};
@@ -147,28 +148,18 @@ pub(crate) fn list_put(
     Ok(())
 }
 
-/// Puts a change into a map, where none stands at its page.
-fn put_missing(map: &mut BTreeMap<u64, Change>, next: PageChange) -> Result<(), AllocError>
-    ensures { OnOk result ((q : ℕ) → mapped_change map.new q
-        ≡ or_change (mapped_change map.old q) (one_change next q)) }
-{
-    if !map.contains_key(&next.page) {
-        map.insert(next.page, next.change)?;
-    }
-    Ok(())
-}
-
 /// These changes as a map. An error where memory ran out.
 pub(crate) fn map_of(
     alloc: Global,
     list: &[PageChange],
 ) -> Result<BTreeMap<u64, Change>, AllocError>
+    requires { PagesRise list.now }
     ensures { IfOk result (λ map. (page : ℕ) → mapped_change map page
         ≡ listed_change list.now page) }
 {
     let mut map = BTreeMap::new(alloc);
     for next in list {
-        put_missing(&mut map, *next)?;
+        many_put(&mut map, next.page, next.change)?;
     }
     Ok(map)
 }

@@ -1,11 +1,12 @@
 //! Many changes of a record, found in their order.
 
-ghost use Rattle.std.specs.Prelude.{◌≤◌, ◌<◌};
+ghost use Rattle.std.specs.Prelude.{◌≡◌, ◌≤◌, ◌<◌, ℕ, Some, OnOk, nat_eq, if◌then◌else◌};
 ghost use Rattle.mapdb_rights.specs.Changes.{IsStretch};
 ghost use Rattle.mapdb_rights.specs.OwnChanges.{IsLastUpTo, IsNoneUntil, mapped_change};
 
 use super::changes::{Change, Stretch};
 use mapdb_fpage::PAGE_LIMIT;
+use std::alloc::AllocError;
 use std::collections::BTreeMap;
 use std::ops::Bound;
 
@@ -45,4 +46,17 @@ pub(crate) fn many_stretch(map: &BTreeMap<u64, Change>, first: Change, page: u64
         Some((_, change)) => Stretch { change, end },
         None => Stretch { change: first, end },
     }
+}
+
+/// Puts a change, in place of one that stands at its page. An error where memory ran out.
+pub(crate) fn many_put(
+    map: &mut BTreeMap<u64, Change>,
+    page: u64,
+    change: Change,
+) -> Result<(), AllocError>
+    ensures { OnOk result ((q : ℕ) → mapped_change map.new q
+        ≡ (if nat_eq page q then Some change else mapped_change map.old q)) }
+{
+    map.insert(page, change)?;
+    Ok(())
 }

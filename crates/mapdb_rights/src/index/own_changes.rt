@@ -8,7 +8,7 @@ ghost use Rattle.mapdb_rights.specs.OwnChanges.{IsLastUpTo, IsNoneUntil, own_cha
 
 use super::changes::{Change, Stretch};
 use super::few_changes::FewChanges;
-use super::many_changes::{many_last, many_next, many_stretch};
+use super::many_changes::{many_last, many_next, many_put, many_stretch};
 use crate::limits::FEW_CHANGES;
 use mapdb_fpage::PAGE_LIMIT;
 use std::alloc::{AllocError, Global};
@@ -123,10 +123,7 @@ impl OwnChanges {
     {
         match self {
             OwnChanges::Few(few) => few.put(page, change),
-            OwnChanges::Many(map) => {
-                map.insert(page, change)?;
-                Ok(())
-            }
+            OwnChanges::Many(map) => many_put(map, page, change),
         }
     }
 
