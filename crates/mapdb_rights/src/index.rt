@@ -2,6 +2,7 @@
 //! others: the rights of records at pages, and where each record stands.
 
 mod building;
+pub(crate) mod by_name;
 mod change_lists;
 mod changes;
 mod children;
@@ -15,6 +16,8 @@ mod live_names;
 mod many_changes;
 pub(crate) mod many_places;
 mod meeting;
+pub(crate) mod name_places;
+pub(crate) mod names;
 pub(crate) mod orders;
 pub(crate) mod own_changes;
 pub(crate) mod own_places;

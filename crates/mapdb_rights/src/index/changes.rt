@@ -8,11 +8,11 @@ ghost use Rattle.mapdb_rights.specs.Changes.{past_the_end, seen_in};
 ghost use Rattle.mapdb_rights.specs.Caching.{covers};
 ghost use Rattle.mapdb_rights.specs.OwnChanges.{IsLastUpTo, IsNoneUntil};
 
+use super::by_name::ByName;
 use super::own_changes::OwnChanges;
 use mapdb_facts::RecordId;
 use mapdb_fpage::{PAGE_LIMIT, Rights};
 use std::alloc::{AllocError, Global};
-use std::collections::HashMap;
 
 /// What a record has from a page on, up to its next change.
 #[derive(Clone, Copy, Debug)]
@@ -78,7 +78,7 @@ impl Stretch {
 /// The changes of all records, each record's by themselves.
 #[derive(Drop)]
 pub struct AllChanges {
-    own: HashMap<RecordId, OwnChanges>,
+    own: ByName<OwnChanges>,
     alloc: Global,
 }
 
@@ -88,7 +88,7 @@ impl AllChanges {
         ensures { result.own.entries ≡ [] }
     {
         AllChanges {
-            own: HashMap::new(alloc),
+            own: ByName::new(alloc),
             alloc,
         }
     }
@@ -98,7 +98,7 @@ impl AllChanges {
 fn last_change(changes: &AllChanges, id: RecordId, page: u64) -> Option<(u64, Change)>
     ensures { IsLastUpTo (change_at changes.now.own.entries id) page result }
 {
-    match changes.own.get(&id) {
+    match changes.own.get(id) {
         Some(own) => own.last(page),
         None => None,
     }
@@ -111,7 +111,7 @@ fn next_change(changes: &AllChanges, id: RecordId, page: u64) -> u64
     ensures limit { result ≤ PAGE_LIMIT }
     ensures none { IsNoneUntil (change_at changes.now.own.entries id) page result }
 {
-    match changes.own.get(&id) {
+    match changes.own.get(id) {
         Some(own) => own.next(page),
         None => PAGE_LIMIT,
     }
@@ -160,7 +160,7 @@ pub(crate) fn stretch_at(changes: &AllChanges, id: RecordId, page: u64) -> Stret
     ensures { IsStretch (change_at changes.now.own.entries id) (at_first id) page result }
 {
     let first = first_change(id);
-    match changes.own.get(&id) {
+    match changes.own.get(id) {
         Some(own) => own.stretch(first, page),
         None => Stretch {
             change: first,
@@ -184,7 +184,7 @@ pub(crate) fn unchanged_until(changes: &AllChanges, id: RecordId, page: u64) -> 
 /// Gives a change to pages of a record among all, over which another stood. The record's changes
 /// are looked up once. An error where memory ran out.
 fn write_among(
-    own_changes: &mut HashMap<RecordId, OwnChanges>,
+    own_changes: &mut ByName<OwnChanges>,
     alloc: Global,
     id: RecordId,
     first: u64,
@@ -197,13 +197,12 @@ fn write_among(
         own_changes.new.entries) }
 {
     let before = first_change(id);
-    if let Some(own) = own_changes.get_mut(&id) {
-        return own.write(alloc, before, first, end, was, change);
+    if let Some(at) = own_changes.names.place(id) {
+        return own_changes.values[at].write(alloc, before, first, end, was, change);
     }
     let mut own = OwnChanges::new(alloc);
     own.write(alloc, before, first, end, was, change)?;
-    own_changes.insert(id, own)?;
-    Ok(())
+    own_changes.insert(id, own)
 }
 
 /// Gives rights and frames to pages of a record over which one change stands.

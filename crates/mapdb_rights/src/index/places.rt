@@ -13,6 +13,7 @@ ghost use Rattle.mapdb_rights.specs.Owners.{owner_writes, owners_alike};
 ghost use Rattle.mapdb_rights.specs.Listing.{places_in, owner_places};
 ghost use Rattle.mapdb_rights.specs.declared.index.places.Listed.{Listed};
 
+use super::by_name::ByName;
 use super::own_places::{OwnPlace, OwnPlaces};
 use mapdb_facts::{Record, RecordId, Space};
 use std::alloc::{AllocError, Global};
@@ -116,7 +117,7 @@ fn put(
 #[derive(Drop)]
 pub struct Places {
     own: HashMap<Owner, OwnPlaces>,
-    held: HashMap<RecordId, Record>,
+    held: ByName<Record>,
     alloc: Global,
 }
 
@@ -128,7 +129,7 @@ impl Places {
     {
         Places {
             own: HashMap::new(alloc),
-            held: HashMap::new(alloc),
+            held: ByName::new(alloc),
             alloc,
         }
     }
@@ -148,15 +149,14 @@ impl Places {
             ≡ held_with self.old mapping.now id) }
         ensures listed { (e : Listed) → is_listed self.new e ≡ is_listed self.old e }
     {
-        self.held.insert(mapping.id, *mapping)?;
-        Ok(())
+        self.held.insert(mapping.id, *mapping)
     }
 
     /// The record that is held under a name, where there is one.
     pub(crate) fn record(&self, id: RecordId) -> Option<Record>
         ensures { result ≡ held_record self.now id }
     {
-        self.held.get(&id).copied()
+        self.held.get(id).copied()
     }
 
     /// The places of an owner, where it has some: a walk over them looks them up once.

@@ -9,7 +9,7 @@ use Rattle.mapdb_rights.proofs.index.changes.last_change.Goals as goal
 pub returns-in-Some : goal.returns-in-Some
 returns-in-Some c =
     subst (λ (at : ℕ → Option Change). IsLastUpTo at c.args.page c.last.result)
-    (own_found c.args.changes.now.own.entries c.args.id c.in-Some.own.now (sym (ap option_copied c.in-Some.is) ∙ c.get.ensures.value)) c.last.ensures
+    (own_found c.args.changes.now.own.entries c.args.id c.in-Some.own.now (sym (ap option_copied c.in-Some.is) ∙ c.get.ensures)) c.last.ensures
 
 pub returns-in-None : goal.returns-in-None
-returns-in-None c q up_to = own_absent c.args.changes.now.own.entries c.args.id q (sym (ap option_copied c.in-None.is) ∙ c.get.ensures.value)
+returns-in-None c q up_to = own_absent c.args.changes.now.own.entries c.args.id q (sym (ap option_copied c.in-None.is) ∙ c.get.ensures)

@@ -1,0 +1,3 @@
+-- Where names stand, and what their values are.
+pub mod NearWords
+pub mod NamedEntries

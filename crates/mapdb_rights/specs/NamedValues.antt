@@ -1,0 +1,26 @@
+-- Values by the name of a record, and where a name stands among those that came.
+use Rattle.std.specs.Prelude.{◌≡◌, ℕ, suc, List, [], ◌∷◌, Option, Some, None, option_map}
+use Rattle.std.specs.Prelude.{if◌then◌else◌}
+use Rattle.std.specs.List.{zip}
+use Rattle.std.specs.Map.{lookup}
+use Rattle.mapdb_facts.specs.Names.{same_id}
+use Rattle.mapdb_facts.specs.declared.names.RecordId.{RecordId}
+
+-- the names with their values, in the order in which the names came
+pub record NamedValues (V : Type 0) : Type 0 where
+  pub entries : List (RecordId × V)
+
+-- the values beside their names
+abbrev pub named : {V : Type 0} → List RecordId → List V → NamedValues V
+named names values = record { entries = zip names values }
+
+-- the place of a name among those that came, where it is one of them
+abbrev pub place_of : RecordId → List RecordId → Option ℕ
+place_of id [] = None
+place_of id (name ∷ names) =
+    if same_id id name then Some 0 else option_map suc (place_of id names)
+
+-- one name has the value, and each other name the one that it had
+abbrev pub IsGiven : {V : Type 0} → NamedValues V → RecordId → V → NamedValues V → Type 0
+IsGiven old id value new = (q : RecordId) → lookup (same_id q) new.entries
+    ≡ (if same_id id q then Some value else lookup (same_id q) old.entries)
