@@ -26,11 +26,11 @@ use Rattle.mapdb_snapshot.proofs.Places.CutsComeBack.{atom_of_take, names_stand,
 use Rattle.mapdb_snapshot.proofs.Json.ListsComeBack.{object_back}
 use Rattle.mapdb_snapshot.proofs.Names.NamesComeBack.{atom_ended, ended_atom, name_fits, revoked_named}
 
--- what holds of each operation holds of one of them
-pub all_among : (P : Op → Type 0) (ops : List Op) → All P ops → (op : Op) → IsAmong op ops → P op
-all_among P [] all op among = absurd among
-all_among P (first ∷ ops) all op (inl same) = subst P same (all zero first (omega arith))
-all_among P (first ∷ ops) all op (inr later) = all_among P ops (λ k d within. all (suc k) d (omega (arith, within))) op later
+-- what holds of each value of a list holds of one of them
+pub all_among : {X : Type 0} (P : X → Type 0) (xs : List X) → All P xs → (x : X) → IsAmong x xs → P x
+all_among P [] all x among = absurd among
+all_among P (first ∷ xs) all x (inl same) = subst P same (all zero first (omega arith))
+all_among P (first ∷ xs) all x (inr later) = all_among P xs (λ k d within. all (suc k) d (omega (arith, within))) x later
 
 pub formed_among : (ops : List Op) → all_formed ops ≡ true → (op : Op) → IsAmong op ops → is_formed op ≡ true
 formed_among [] formed op among = absurd among

@@ -1,6 +1,6 @@
 -- The text of a snapshot reads as the JSON that was written.
-use Rattle.std.proofs.Common.{◌≡◌, ℕ, suc, ◌<◌, ◌≤◌, ◌^◌, Bool, true, false, append-nil, refl, sym, ap, subst, ◌∙◌, List, [], ◌∷◌, ◌++◌, map, Some, option_and_then, option_map, decimal, IsUtf8, inl, inr, arith}
-use Rattle.std.specs.Prelude.{codes}
+use Rattle.std.proofs.Common.{◌≡◌, ℕ, suc, ◌<◌, ◌≤◌, ◌^◌, Bool, true, false, append-nil, refl, sym, ap, subst, ◌∙◌, List, [], ◌∷◌, ◌++◌, map, Ok, Some, option_and_then, option_map, decimal, IsUtf8, inl, inr, arith}
+use Rattle.std.specs.Prelude.{All, codes}
 use Rattle.std.proofs.lemmas.Fmt.{IsAscii-decimal}
 use Rattle.std.proofs.lemmas.Str.{IsUtf8-append, IsUtf8-from_ascii, IsUtf8-nil}
 use Rattle.json.specs.Json.{if_last, value}
@@ -26,6 +26,7 @@ use Rattle.mapdb_facts.specs.Values.{IsId, IsRecord, IsSpace}
 use Rattle.mapdb_facts.specs.declared.names.RecordId.{RecordId}
 use Rattle.mapdb_facts.specs.declared.names.Space.{Space}
 use Rattle.mapdb_facts.specs.declared.operations.Op.{Op}
+use Rattle.mapdb_facts.specs.declared.operations.Op.TheVariants.{Born, Closed, Cut}
 use Rattle.mapdb_facts.specs.declared.operations.Record.{Record}
 use Rattle.mapdb_facts.specs.declared.operations.Revocation.{Revocation}
 use Rattle.mapdb_snapshot.specs.ComingBack.{FitsRow, IsRevocation, IsSaved, SnapshotsComeBack}
@@ -34,8 +35,9 @@ use Rattle.mapdb_snapshot.specs.Laws.{ComesBack}
 use Rattle.mapdb_snapshot.specs.Reading.{operations_of, snapshot_of}
 use Rattle.mapdb_snapshot.specs.Snapshot.{cut_row, ended_row, ended_of, list_of, record_row, row, snapshot_data, snapshot_object, snapshot_text, whole_number}
 use Rattle.mapdb_snapshot.specs.declared.faults.TheConstants.{SNAPSHOT_VERSION}
+use Rattle.mapdb_snapshot.proofs.Json.ListsComeBack.{object_back}
 use Rattle.mapdb_snapshot.proofs.Json.ReadMembers.{snapshot_of-read}
-use Rattle.mapdb_snapshot.proofs.Texts.AtomsComeBack.{all_written, data_comes_back, written_cut, written_record, written_space}
+use Rattle.mapdb_snapshot.proofs.Texts.AtomsComeBack.{all_among, all_written, data_comes_back, written_cut, written_record, written_space}
 
 -- the value reads as it is written, and nests no deeper
 record ReadsBack (deepest : ℕ) (d : Data) : Type 0 where
@@ -197,6 +199,18 @@ object_reads_back cuts ended records are_cuts are_ended are_records = keys_back
     (array_back 1 (items_of (map record_row records)) (each_back record_row 1 records
     (λ r among. record_reads_back r (are_records r among))))
     (number_back SNAPSHOT_VERSION (omega arith))
+
+-- the text of any three lists says these lists
+pub lists_back : (cuts : List Revocation) (ended : List Space) (records : List Record) → All IsRevocation cuts → All IsSpace ended → All FitsRow records
+    → snapshot_of (compact_text (snapshot_object cuts ended records)) ≡ Ok (map Born records ++ map Cut cuts ++ map Closed ended)
+lists_back cuts ended records are_cuts are_spaces fit =
+    let cut = all_among IsRevocation cuts are_cuts in
+    let space = all_among IsSpace ended are_spaces in
+    let r = all_among FitsRow records fit in
+    let back = object_reads_back cuts ended records cut space r in
+    snapshot_of-read (compact_text (snapshot_object cuts ended records)) (snapshot_object cuts ended records) back.text
+    (read_back (snapshot_object cuts ended records) back)
+    ∙ object_back cuts ended records cut space r
 
 -- the text of a snapshot says what its JSON says
 pub text_back : (ops : List Op) → ((op : Op) → IsAmong op ops → IsSaved op)

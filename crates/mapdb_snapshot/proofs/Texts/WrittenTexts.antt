@@ -1,5 +1,5 @@
 -- What is written is the text of the operations.
-use Rattle.std.proofs.Common.{◌≡◌, ap, ◌∙◌, List, ◌++◌, append_assoc}
+use Rattle.std.proofs.Common.{◌≡◌, ap, ◌∙◌, List, [], ◌∷◌, ◌++◌, append_assoc}
 use Rattle.std.specs.Prelude.{ℕ, codes, decimal}
 use Rattle.mapdb_facts.specs.Facts.{records_of_facts, state_of_facts}
 use Rattle.mapdb_facts.specs.State.{State, state_of}
@@ -40,3 +40,16 @@ of_pieces cuts ended records = simp append_assoc
 pub behind : (a x b y c z d t₁ t₂ t₃ t₄ t₅ t₆ t₇ : List ℕ) → t₁ ≡ a → t₂ ≡ t₁ ++ x → t₃ ≡ t₂ ++ b → t₄ ≡ t₃ ++ y → t₅ ≡ t₄ ++ c → t₆ ≡ t₅ ++ z
     → t₇ ≡ t₆ ++ d → t₇ ≡ a ++ x ++ b ++ y ++ c ++ z ++ d
 behind a x b y c z d t₁ t₂ t₃ t₄ t₅ t₆ t₇ e₁ e₂ e₃ e₄ e₅ e₆ e₇ = cc
+
+-- its text, piece by piece, each before all that stand behind it
+pub of_scanned_pieces : (cuts ended records : Data)
+    → codes "{\"cuts\":" ++ (compact_text cuts ++ (codes ",\"ended\":" ++ (compact_text ended ++ (codes ",\"records\":" ++ (compact_text records
+    ++ (codes ",\"version\":" ++ (decimal SNAPSHOT_VERSION ++ (125 ∷ []))))))))
+    ≡ compact_text (of_lists cuts ended records)
+unfolding escape_byte
+of_scanned_pieces cuts ended records = simp append_assoc
+
+-- pieces that were scanned one behind the other
+pub before : (t a x b y c z d e t₁ t₂ t₃ t₄ t₅ t₆ t₇ : List ℕ) → t ≡ a ++ t₁ → t₁ ≡ x ++ t₂ → t₂ ≡ b ++ t₃ → t₃ ≡ y ++ t₄ → t₄ ≡ c ++ t₅ → t₅ ≡ z ++ t₆
+    → t₆ ≡ d ++ t₇ → t₇ ≡ e → t ≡ a ++ (x ++ (b ++ (y ++ (c ++ (z ++ (d ++ e))))))
+before t a x b y c z d e t₁ t₂ t₃ t₄ t₅ t₆ t₇ e₀ e₁ e₂ e₃ e₄ e₅ e₆ e₇ = cc

@@ -1,0 +1,16 @@
+use Rattle.std.proofs.Common.{drop, length}
+use Rattle.std.specs.Prelude.{All}
+use Rattle.mapdb_snapshot.specs.ComingBack.{FitsRow}
+use Rattle.mapdb_snapshot.specs.Snapshot.{record_row}
+use Rattle.mapdb_snapshot.proofs.Scans.OpenRows.{OpensWith}
+use Rattle.mapdb_snapshot.proofs.written_form.records_scanned.Given as goal
+
+-- the rows so far stand open
+abbrev pub invariant-rows : goal.invariant-rows
+invariant-rows l = record {
+  rows : OpensWith record_row l.records.items l.later (drop l.fn.at l.text) (drop l.at l.text);
+  fits : All FitsRow l.records.items;
+}
+
+abbrev pub decreases-rows : goal.decreases-rows
+decreases-rows l = length (drop l.at l.text)
