@@ -18,15 +18,15 @@ use Rattle.mapdb_replica.proofs.replicas.Replica.batch_refusal.Goals as goal
 pub least_clash-requires : goal.least_clash-requires
 least_clash-requires c =
     subst (λ (ops : List Op). all_formed ops ≡ true) (sym (c.as_slice.ensures.value ∙ c.in_ok-unheld.ensures.unheld))
-    (formed-filter (is_new (state_of_facts c.self.inside.facts)) c.args.batch.now c.requires)
+    (formed-filter (is_new (state_of c.args.self.now.ops)) c.args.batch.now c.requires)
 
 -- the clash of the batch is the one that was found
 clash : (facts : Facts) (kept now batch unheld : List Op) (found : Option RecordId) → IsSound kept → state_of_facts facts ≡ state_of kept → kept ≡ now
-    → unheld ≡ filter (is_new (state_of_facts facts)) batch
+    → unheld ≡ filter (is_new (state_of now)) batch
     → ((ops : List Op) → IsSound ops → state_of_facts facts ≡ state_of ops → found ≡ least_clash ops unheld)
     → found ≡ least_clash now batch
 clash facts kept now batch unheld found sound said same is least =
-    clash_of_batch facts now batch unheld found (subst IsSound same sound) (said ∙ ap state_of same) is least
+    clash_of_batch now batch unheld is facts found (subst IsSound same sound) (said ∙ ap state_of same) least
 
 -- what is refused, by the clash that was found
 refused : (held batch : List Op) (clash found : Option RecordId) → found ≡ least_clash held batch → found ≡ clash
@@ -50,7 +50,7 @@ pub returns-then-is_full-clause-refusal : goal.returns-then-is_full-clause-refus
 returns-then-is_full-clause-refusal c =
     let same : c.self.inside.ops.keys ≡ c.args.self.now.ops = ap (λ (l : Log). l.ops) c.self.view_is in
     let is = c.as_slice.ensures.value ∙ c.in_ok-unheld.ensures.unheld in
-    let count = count_of_batch c.self.inside.facts c.args.self.now.ops c.args.batch.now c.as_slice.result.now (c.self.invariant.said ∙ ap state_of same) is in
+    let count = count_of_batch c.args.self.now.ops c.args.batch.now c.as_slice.result.now is in
     let kept : length c.self.inside.ops.keys ≡ length c.args.self.now.ops = ap (λ (ops : List Op). length ops) same in
     let held : length c.as_slice.result.now ≡ length c.in_ok-unheld.unheld.items = ap (λ (ops : List Op). length ops) c.as_slice.ensures.value in
     let many : most_operations < length c.args.self.now.ops + length c.as_slice.result.now = omega (arith, c.if-is_full.true, c.len.ensures.len, c.len-2.ensures, kept, held) in
@@ -64,7 +64,7 @@ pub returns-clause-refusal : goal.returns-clause-refusal
 returns-clause-refusal c =
     let same : c.self.inside.ops.keys ≡ c.args.self.now.ops = ap (λ (l : Log). l.ops) c.self.view_is in
     let is = c.as_slice.ensures.value ∙ c.in_ok-unheld.ensures.unheld in
-    let count = count_of_batch c.self.inside.facts c.args.self.now.ops c.args.batch.now c.as_slice.result.now (c.self.invariant.said ∙ ap state_of same) is in
+    let count = count_of_batch c.args.self.now.ops c.args.batch.now c.as_slice.result.now is in
     let kept : length c.self.inside.ops.keys ≡ length c.args.self.now.ops = ap (λ (ops : List Op). length ops) same in
     let held : length c.as_slice.result.now ≡ length c.in_ok-unheld.unheld.items = ap (λ (ops : List Op). length ops) c.as_slice.ensures.value in
     let few : length c.args.self.now.ops + length c.as_slice.result.now ≤ most_operations = omega (arith, c.if-is_full.false, c.len.ensures.len, c.len-2.ensures, kept, held) in
