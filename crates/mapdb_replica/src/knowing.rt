@@ -40,4 +40,19 @@ impl Replica {
         }
         ops.len()
     }
+
+    /// Whether no operation of the list says anything that is not held. It takes no memory.
+    pub(crate) fn knows_all(&self, ops: &[Op]) -> bool
+        ensures known { result ≡ knows_all self.now.ops ops.now }
+        ensures sound { IsSound self.now.ops }
+    {
+        // The proof needs what a copy keeps, which is known where one of its fields is used.
+        let _ops = &self.ops;
+        for op in ops {
+            if self.is_new(op) {
+                return false;
+            }
+        }
+        true
+    }
 }
