@@ -4,5 +4,7 @@ pub mod NewsAtoms
 pub mod NewsOfBatches
 pub mod SeenClashes
 pub mod SoundTakes
+pub mod TakenBatches
 pub mod TurnsOfBatches
 pub mod UnheldClashes
+pub mod UnheldTurns

@@ -1,9 +1,8 @@
 -- Copies compare by their atoms, and the same atoms look alike.
-use Rattle.std.proofs.Common.{◌≡◌, Bool, true, false, refl, ap, sym, subst, ◌∙◌, inl, inr, List, [], ◌∷◌, slice_get}
+use Rattle.std.proofs.Common.{◌≡◌, Bool, true, false, refl, ap, sym, ◌∙◌, inl, inr, List, [], ◌∷◌, slice_get}
 use Rattle.std.specs.Prelude.{◌↔◌, IsTrue, not}
 use Rattle.std.proofs.lemmas.Bool.{and_from, and_parts, not-true}
 use Rattle.mapdb_facts.specs.Adding.{is_new}
-use Rattle.mapdb_facts.specs.Merging.{Includes}
 use Rattle.mapdb_facts.specs.Records.{records_of}
 use Rattle.mapdb_facts.specs.State.{Atom, Covers, Gives, Has, HasAtom, IsSound, SameAtoms, State, state_of}
 use Rattle.mapdb_facts.specs.declared.operations.Op.{Op}
@@ -17,13 +16,6 @@ use Rattle.mapdb_replica.specs.Issue.{holders}
 use Rattle.mapdb_replica.specs.Pairs.{page_rights, pairs_from}
 use Rattle.mapdb_replica.specs.Served.{holder_pairs, served, with_listed}
 use Rattle.mapdb_replica.proofs.News.NewsAtoms.{old_known}
-
--- what sound operations say has the atoms of the operations
-pub includes_covers : (xs ys : List Op) (S T : State) → S ≡ state_of xs → T ≡ state_of ys → IsSound xs → IsSound ys → Includes S T ↔ Covers xs ys
-includes_covers xs ys S T is_S is_T sound_x sound_y = (
-  λ all atom has. atom_held xs atom (subst (λ (U : State). Includes U (state_of ys)) is_S (subst (λ (U : State). Includes S U) is_T all) atom (atom_kept ys atom sound_y has)),
-  λ all. subst (λ (U : State). Includes U T) (sym is_S) (subst (λ (U : State). Includes (state_of xs) U) (sym is_T) (λ atom has. atom_kept xs atom sound_x (all atom (atom_held ys atom has)))),
-)
 
 -- an operation whose atoms are all held is not new
 old_from : (S : State) (op : Op) → ((atom : Atom) → Gives op atom → Has S atom) → is_new S op ≡ false
@@ -50,21 +42,9 @@ known_covers xs (op ∷ ys) known atom has = by_part (and_parts (not (is_new (st
     by_part parts (inl gives) rest = atom_held xs atom (old_known (state_of xs) op atom (not-true (is_new (state_of xs) op) parts.0) gives)
     by_part parts (inr later) rest = rest parts.1 later
 
--- an answer that is yes exactly where all atoms are held, is whether nothing is new
-pub covers_is : (xs ys : List Op) (answer : Bool) → IsSound xs → IsTrue answer ↔ Covers xs ys → answer ≡ knows_all xs ys
-covers_is xs ys answer sound exact = by_answer answer (knows_all xs ys) refl exact
-  where
-    by_answer : (a b : Bool) → knows_all xs ys ≡ b → IsTrue a ↔ Covers xs ys → a ≡ b
-    by_answer true true e both = refl
-    by_answer false false e both = refl
-    by_answer true false e both = sym (covers_known xs ys sound (both.0 refl)) ∙ e
-    by_answer false true e both = both.1 (known_covers xs ys e)
-
--- the answer of facts is the answer of the operations
-pub answer_covers : (xs ys : List Op) (S T : State) (answer : Bool) → S ≡ state_of xs → T ≡ state_of ys → IsSound xs → IsSound ys → IsTrue answer ↔ Includes S T → IsTrue answer ↔ Covers xs ys
-answer_covers xs ys S T answer is_S is_T sound_x sound_y exact =
-    let atoms = includes_covers xs ys S T is_S is_T sound_x sound_y in
-    (λ yes. atoms.0 (exact.0 yes), λ all. exact.1 (atoms.1 all))
+-- an answer that is whether nothing is new, is yes exactly where all atoms are held
+pub known_exact : (xs ys : List Op) (answer : Bool) → IsSound xs → answer ≡ knows_all xs ys → IsTrue answer ↔ Covers xs ys
+known_exact xs ys answer sound is = (λ yes. known_covers xs ys (sym is ∙ yes), λ all. is ∙ covers_known xs ys sound all)
 
 -- both ways is the same atoms
 pub both_ways : (xs ys : List Op) → Covers xs ys → Covers ys xs → SameAtoms xs ys

@@ -169,22 +169,16 @@ least_clash-unheld held batch sound =
     (λ id. (unheld_clashes held batch id, clashes_unheld held batch id sound)) (least_clash-is held rest))
     (least_clash-is held batch)
 
--- The clash that is found among what is not held, and how many that are, by a copy's facts.
-module _ (facts : Facts) (held batch unheld : List Op) where
-  pub clash_of_batch : (clash : Option RecordId) → IsSound held → state_of_facts facts ≡ state_of held
-      → unheld ≡ filter (is_new (state_of_facts facts)) batch
+-- The clash that is found among what is not held, and how many that are.
+module _ (held batch unheld : List Op) (is : unheld ≡ filter (is_new (state_of held)) batch) where
+  pub clash_of_batch : (facts : Facts) (clash : Option RecordId) → IsSound held → state_of_facts facts ≡ state_of held
       → ((ops : List Op) → IsSound ops → state_of_facts facts ≡ state_of ops → clash ≡ least_clash ops unheld)
       → clash ≡ least_clash held batch
-  clash_of_batch clash sound said is found =
-      found held sound said
-      ∙ ap (λ (ops : List Op). least_clash held ops) (is ∙ ap (λ (S : State). filter (is_new S) batch) said)
-      ∙ least_clash-unheld held batch sound
+  clash_of_batch facts clash sound said found =
+      found held sound said ∙ ap (λ (ops : List Op). least_clash held ops) is ∙ least_clash-unheld held batch sound
 
-  pub count_of_batch : state_of_facts facts ≡ state_of held → unheld ≡ filter (is_new (state_of_facts facts)) batch
-      → length unheld ≡ count_by (is_new (state_of held)) batch
-  count_of_batch said is =
-      ap (λ (ops : List Op). length ops) (is ∙ ap (λ (S : State). filter (is_new S) batch) said)
-      ∙ length-filter (is_new (state_of held)) batch
+  pub count_of_batch : length unheld ≡ count_by (is_new (state_of held)) batch
+  count_of_batch = ap (λ (ops : List Op). length ops) is ∙ length-filter (is_new (state_of held)) batch
 
 -- with so many that are not held there are too many, or not
 pub too_many_where : (held batch : List Op) (count : ℕ) → count ≡ count_by (is_new (state_of held)) batch

@@ -1,9 +1,0 @@
-use Rattle.std.proofs.Common.{◌≡◌, take}
-use Rattle.std.specs.List.{filter}
-use Rattle.mapdb_facts.specs.Adding.{is_new}
-use Rattle.mapdb_facts.specs.Facts.{state_of_facts}
-use Rattle.mapdb_replica.proofs.batches.unheld_of.Given as goal
-
--- those so far that say something new
-abbrev pub invariant-loop-op : goal.invariant-loop-op
-invariant-loop-op l = l.unheld.items ≡ filter (is_new (state_of_facts l.facts)) (take l.op-index l.batch)
