@@ -1,7 +1,7 @@
 -- What is ahead was asked of a reader at once.
-use Rattle.std.proofs.Common.{◌≡◌, ◌≤◌, ℕ, List, length, arith, ap, sym, ◌∙◌}
+use Rattle.std.proofs.Common.{◌≡◌, ◌≤◌, ℕ, ◌+◌, List, ◌++◌, length, arith, ap, sym, ◌∙◌}
 use Rattle.std.proofs.lemmas.List.{length-append}
-use Rattle.mapdb_lines.specs.Limits.{read_ahead}
+use Rattle.mapdb_lines.specs.Limits.{line_limit, read_ahead}
 use Rattle.mapdb_lines.specs.Lines.{before, beyond}
 use Rattle.mapdb_lines.specs.Reading.{ahead_of}
 use Rattle.mapdb_lines.specs.declared.reading.Reading.{Reading}
@@ -13,4 +13,10 @@ few_ahead r = let size = length_range r.piece.items r.start r.end (omega (arith,
 pub few_beyond : (bytes : List ℕ) → length bytes ≤ read_ahead → length (beyond 10 bytes) ≤ read_ahead
 few_beyond bytes few =
     let both = sym (ap length (before-beyond 10 bytes)) ∙ length-append (before 10 bytes) (beyond 10 bytes) in
+    omega arith
+
+-- a line that is no longer than it may be, and what is ahead of it
+pub few_bytes : (bytes line ahead : List ℕ) → bytes ≡ line ++ ahead → length line ≤ line_limit → length ahead ≤ read_ahead → length bytes ≤ line_limit + read_ahead
+few_bytes bytes line ahead is short few =
+    let both = ap length is ∙ length-append line ahead in
     omega arith
