@@ -13,7 +13,7 @@ pages-preserved c =
     let here : continues (served c.args.self.now.ops c.args.space c.args.page) (c.pages.end - c.args.page)
     (served c.args.self.now.ops c.args.space c.pages.end) ≡ true =
     ap (λ (o : Option Pair). continues o (c.pages.end - c.args.page) (served c.args.self.now.ops c.args.space c.pages.end)) (sym c.requires.first)
-    ∙ ap (λ (o : Option Pair). continues c.args.first (c.pages.end - c.args.page) o) (sym c.served.ensures)
+    ∙ ap (λ (o : Option Pair). continues c.args.first (c.pages.end - c.args.page) o) (sym c.served.ensures.value)
     ∙ sym c.continues.ensures ∙ c.if-not-continues.false in
     record {
       above = omega (arith, above, further);
