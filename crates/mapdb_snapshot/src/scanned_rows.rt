@@ -1,6 +1,6 @@
 //! The rows of a snapshot, in the form in which they are written.
 
-ghost use Rattle.std.specs.Prelude.{◌≡◌, ◌∷◌, ◌++◌, ◌<◌, ◌^◌, IfSome, decimal, drop};
+ghost use Rattle.std.specs.Prelude.{◌≡◌, ◌∷◌, ◌++◌, IfSome, decimal, drop};
 ghost use Rattle.mapdb_fpage.specs.Place.{IsPlace};
 ghost use Rattle.mapdb_fpage.specs.RightSets.{bits_of};
 ghost use Rattle.mapdb_facts.specs.Values.{IsId, IsSpace};
