@@ -2,6 +2,7 @@ pub mod LeastPlaces
 pub mod Meetings
 pub mod OrderBits
 pub mod OwnersPlaces
+pub mod ByOwners
 pub mod PlaceLists
 pub mod PlaceNames
 pub mod PlaceOrder

@@ -1,6 +1,7 @@
 -- Whose places are listed, which of them meet pages, and which records are held under their names.
 use Rattle.std.specs.Prelude.{◌≡◌, ℕ, Bool, true, false, List, [], ◌∷◌, ◌++◌, length, map, Option}
-use Rattle.std.specs.Prelude.{Some, None, count_by, ◌⊎◌, if◌then◌else◌}
+use Rattle.std.specs.Prelude.{Some, None, count_by, ◌||◌, ◌⊎◌, if◌then◌else◌}
+use Rattle.std.specs.BTreeMap.{is_at}
 use Rattle.std.specs.BTreeMap.Range.{IsFromStart, IsLeBy}
 use Rattle.std.specs.Map.{lookup}
 use Rattle.std.specs.Ordering.{is_lt, nat_cmp, ordering_then}
@@ -21,7 +22,7 @@ use Rattle.mapdb_rights.specs.declared.index.places.Owner.{Owner}
 use Rattle.mapdb_rights.specs.declared.index.places.Owner.TheVariants.{Record, Space}
 use Rattle.mapdb_rights.specs.declared.index.places.Places.{Places}
 pub use Rattle.mapdb_rights.specs.Owners.{same_owner}
-use Rattle.mapdb_rights.specs.OwnPlaces.{IsAlignedPlace, own_list, own_meets, own_pages, stands}
+use Rattle.mapdb_rights.specs.OwnPlaces.{IsAlignedPlace, own_list, own_meets, own_pages, place_cmp, stands}
 
 -- records come before spaces
 abbrev pub owner_cmp : Owner → Owner → Ordering
@@ -48,6 +49,15 @@ listed_for owner p = record { owner = owner; order = p.order; first = p.first; i
 abbrev pub places_in : Option OwnPlaces → List OwnPlace
 places_in None = []
 places_in (Some own) = own_list own
+
+-- one key has one place more, and each other what it had
+pub record IsPut (K : Type 0) (same : K → K → Bool) (old new : List (K × OwnPlaces)) (key : K)
+    (place : OwnPlace) : Type 0 where
+  pub own : OwnPlaces
+  pub given : (q : K) → lookup (same q) new
+      ≡ (if same key q then Some own else lookup (same q) old)
+  pub put : (k : OwnPlace) → stands (own_list own) k
+      ≡ (is_at (place_cmp place) k || stands (places_in (lookup (same key) old)) k)
 
 -- the places of an owner among those of all
 abbrev pub places_among : List (Owner × OwnPlaces) → Owner → List OwnPlace

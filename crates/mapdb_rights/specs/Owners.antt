@@ -1,10 +1,9 @@
--- What owners of places feed a hasher.
-use Rattle.std.specs.Prelude.{◌≡◌, Bool, true, false}
-use Rattle.std.specs.Hash.{HashWrites}
-use Rattle.std.proofs.lemmas.Bool.{false≢true}
-use Rattle.mapdb_facts.specs.Hashing.{id_writes, ids_alike, space_writes, spaces_alike}
+-- Which owners of places are one, and the places of all of them.
+use Rattle.std.specs.Prelude.{Bool, false, List, ◌++◌, map}
 use Rattle.mapdb_facts.specs.Names.{same_id, same_space}
-use Rattle.mapdb_rights.specs.contracts.index.places.OwnerPartialEq.TheImpl as compared
+use Rattle.mapdb_facts.specs.declared.names.RecordId.{RecordId}
+use Rattle.mapdb_facts.specs.declared.names.Space as names
+use Rattle.mapdb_rights.specs.declared.index.own_places.OwnPlaces.{OwnPlaces}
 use Rattle.mapdb_rights.specs.declared.index.places.Owner.{Owner}
 use Rattle.mapdb_rights.specs.declared.index.places.Owner.TheVariants.{Record, Space}
 
@@ -14,14 +13,12 @@ same_owner (Record a) (Space b) = false
 same_owner (Space a) (Record b) = false
 same_owner (Space a) (Space b) = same_space a b
 
--- those of the name or of the space
-abbrev pub owner_writes : Owner → HashWrites
-owner_writes (Record id) = id_writes id
-owner_writes (Space space) = space_writes space
+-- the owners with their places
+pub record PlacesByOwner : Type 0 where
+  pub entries : List (Owner × OwnPlaces)
 
--- what compares equal feeds alike
-pub owners_alike : (a b : Owner) → compared.eq-value.it a b ≡ true → owner_writes a ≡ owner_writes b
-owners_alike (Record a) (Record b) same = ids_alike a b same
-owners_alike (Record a) (Space b) same = absurd (false≢true same)
-owners_alike (Space a) (Record b) same = absurd (false≢true same)
-owners_alike (Space a) (Space b) same = spaces_alike a b same
+-- records with their places, and then spaces with theirs
+abbrev pub by_owner : List (RecordId × OwnPlaces) → List (names.Space × OwnPlaces) → PlacesByOwner
+by_owner records spaces = record {
+  entries = map (λ e. (Record e.0, e.1)) records ++ map (λ e. (Space e.0, e.1)) spaces;
+}

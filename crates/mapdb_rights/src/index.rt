@@ -21,6 +21,7 @@ pub(crate) mod names;
 pub(crate) mod orders;
 pub(crate) mod own_changes;
 pub(crate) mod own_places;
+pub(crate) mod owners_places;
 mod page_pairs;
 mod page_rights;
 mod place_lists;

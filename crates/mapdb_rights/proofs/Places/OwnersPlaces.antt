@@ -1,5 +1,5 @@
 -- What the places of one owner say of all that is listed.
-use Rattle.std.proofs.Common.{◌≡◌, ℕ, Bool, true, false, cond, refl, sym, ap, subst, List, [], ◌∷◌, ◌++◌, map, ◌∙◌, inl, inr}
+use Rattle.std.proofs.Common.{◌≡◌, ℕ, Bool, true, false, cond, refl, sym, ap, List, [], ◌∷◌, ◌++◌, map, ◌∙◌, inl, inr}
 use Rattle.std.specs.Prelude.{◌||◌, Option, None, Some, IfSome, option_map}
 use Rattle.std.specs.BTreeMap.{is_at}
 use Rattle.std.specs.BTreeMap.Range.{is_from_start}
@@ -13,43 +13,18 @@ use Rattle.mapdb_rights.specs.declared.index.own_places.OwnPlace.{OwnPlace}
 use Rattle.mapdb_rights.specs.declared.index.own_places.OwnPlaces.{OwnPlaces}
 use Rattle.mapdb_rights.specs.declared.index.places.Listed.{Listed}
 use Rattle.mapdb_rights.specs.declared.index.places.Owner.{Owner}
-use Rattle.mapdb_rights.specs.declared.index.places.Owner.TheVariants.{Record, Space}
 use Rattle.mapdb_rights.specs.declared.index.places.Places.{Places}
-use Rattle.mapdb_rights.specs.contracts.index.places.OwnerPartialEq.TheImpl as owner_eq
 use Rattle.mapdb_rights.specs.Listing.{AllAligned, IsFirstInside, IsNextMeeting, entries_among, is_above, is_among, is_listed, listed_cmp, listed_for, own_place, places_among, places_in, same_owner}
 use Rattle.mapdb_rights.specs.OwnPlaces.{AreAligned, IsFirstPlaceWhere, IsNextPlace, is_beyond, own_list, place_cmp, stands}
 use Rattle.mapdb_rights.proofs.Lists.ListedOrder.{exact_owner, less_from, listed_apart, owner_is, same_then}
 use Rattle.mapdb_rights.proofs.Places.PlaceOrder.{le_as, le_is}
 
--- ---- the test that is derived is the one that is written
-
-abbrev pub derived_eq : Owner → Owner → Bool
-derived_eq = (owner_eq.ghosts).eq
-
-eq_derived : (x y : Owner) → derived_eq x y ≡ same_owner x y
-eq_derived (Record a) (Record b) = refl
-eq_derived (Record a) (Space b) = refl
-eq_derived (Space a) (Record b) = refl
-eq_derived (Space a) (Space b) = refl
-
-pub eq_is : derived_eq ≡ same_owner
-eq_is = λ i. λ x y. eq_derived x y i
-
--- what is found by the one test is found by the other
-pub found_written : (owners : List (Owner × OwnPlaces)) (key : Owner) (found : Option OwnPlaces) → found ≡ lookup (derived_eq key) owners → lookup (same_owner key) owners ≡ found
-found_written owners key found h = subst (λ (E : Owner → Owner → Bool). lookup (E key) owners ≡ found) eq_is (sym h)
-
-at_written : (old new : List (Owner × OwnPlaces)) (key : Owner) (own : OwnPlaces)
-    → ((q : Owner) → lookup (derived_eq q) new ≡ cond (derived_eq key q) (Some own) (lookup (derived_eq q) old))
-    → (q : Owner) → lookup (same_owner q) new ≡ cond (same_owner key q) (Some own) (lookup (same_owner q) old)
-at_written old new key own h = subst (λ (E : Owner → Owner → Bool). (q : Owner) → lookup (E q) new ≡ cond (E key q) (Some own) (lookup (E q) old)) eq_is h
-
 -- the places of an owner that has some, and of one that has none
-pub places_found : (owners : List (Owner × OwnPlaces)) (key : Owner) (own : OwnPlaces) → Some own ≡ lookup (derived_eq key) owners → places_among owners key ≡ own_list own
-places_found owners key own h = ap places_in (found_written owners key (Some own) h)
+pub places_found : (owners : List (Owner × OwnPlaces)) (key : Owner) (own : OwnPlaces) → Some own ≡ lookup (same_owner key) owners → places_among owners key ≡ own_list own
+places_found owners key own h = ap places_in (sym h)
 
-pub places_absent : (owners : List (Owner × OwnPlaces)) (key : Owner) → None ≡ lookup (derived_eq key) owners → places_among owners key ≡ []
-places_absent owners key h = ap places_in (found_written owners key None h)
+pub places_absent : (owners : List (Owner × OwnPlaces)) (key : Owner) → None ≡ lookup (same_owner key) owners → places_among owners key ≡ []
+places_absent owners key h = ap places_in (sym h)
 
 -- ---- entries of one owner compare as their places
 
@@ -131,21 +106,6 @@ module _ (old new : List (Owner × OwnPlaces)) (entry : Listed) (own : OwnPlaces
     | inl same ↦ at_own e (exact_owner entry.owner e.owner same)
     | inr other ↦ at_other e other
   ]
-
-module _ (old new : List (Owner × OwnPlaces)) (entry : Listed) (p : OwnPlace) (was own : OwnPlaces) (is : p ≡ own_place entry)
-    (changed : (q : Owner) → lookup (derived_eq q) new ≡ cond (derived_eq entry.owner q) (Some own) (lookup (derived_eq q) old))
-    (put : (k : OwnPlace) → stands (own_list own) k ≡ (is_at (place_cmp p) k || stands (own_list was) k)) where
-  put_over : own_list was ≡ places_among old entry.owner → (e : Listed) → is_among new e ≡ (is_at (listed_cmp entry) e || is_among old e)
-  put_over before =
-      put_among old new entry own (at_written old new entry.owner own changed) (λ k. put k ∙ (λ i. is_at (place_cmp (is i)) k || stands (before i) k))
-
-  -- where the owner has places
-  pub put_changed : Some was ≡ lookup (derived_eq entry.owner) old → (e : Listed) → is_among new e ≡ (is_at (listed_cmp entry) e || is_among old e)
-  put_changed found = put_over (sym (places_found old entry.owner was found))
-
-  -- where it has none
-  pub put_new : own_list was ≡ [] → None ≡ lookup (derived_eq entry.owner) old → (e : Listed) → is_among new e ≡ (is_at (listed_cmp entry) e || is_among old e)
-  put_new none absent = put_over (none ∙ sym (places_absent old entry.owner absent))
 
 -- ---- what is listed stands among all entries
 

@@ -6,19 +6,17 @@ ghost use Rattle.std.specs.BTreeMap.{is_at};
 ghost use Rattle.std.specs.Option.{option_copied};
 ghost use Rattle.std.specs.declared.ops.Bound.TheVariants.{Excluded, Included};
 ghost use Rattle.mapdb_facts.specs.declared.names.RecordId.{RecordId};
-ghost use Rattle.mapdb_rights.specs.Listing.{AllAligned, IsFirstInside, IsNextMeeting, is_among};
+ghost use Rattle.mapdb_rights.specs.Listing.{AllAligned, IsFirstInside, IsNextMeeting};
 ghost use Rattle.mapdb_rights.specs.Listing.{held_record, held_with, is_listed, listed_cmp};
 ghost use Rattle.mapdb_rights.specs.Listing.{listed_for, own_place};
-ghost use Rattle.mapdb_rights.specs.Owners.{owner_writes, owners_alike};
 ghost use Rattle.mapdb_rights.specs.Listing.{places_in, owner_places};
 ghost use Rattle.mapdb_rights.specs.declared.index.places.Listed.{Listed};
 
 use super::by_name::ByName;
 use super::own_places::{OwnPlace, OwnPlaces};
+use super::owners_places::OwnersPlaces;
 use mapdb_facts::{Record, RecordId, Space};
 use std::alloc::{AllocError, Global};
-use std::collections::HashMap;
-use std::hash::{Hash, Hasher};
 
 /// Who has a place listed.
 #[derive(Clone, Copy, Debug, PartialEq, Eq)]
@@ -27,20 +25,6 @@ pub enum Owner {
     Record(RecordId),
     /// A space, the places of its records.
     Space(Space),
-}
-
-/// A record and a space are hashed alike: there are many of the one, and few of the other.
-impl Hash for Owner {
-    ghost hash_input = { owner_writes };
-
-    ghost respects_eq = { owners_alike };
-
-    fn hash<H: Hasher>(&self, state: &mut H) {
-        match self {
-            Owner::Record(id) => id.hash(state),
-            Owner::Space(space) => space.hash(state),
-        }
-    }
 }
 
 /// A place of an owner, and the record that stands for it.
@@ -94,31 +78,12 @@ fn listed_for(owner: Owner, place: Option<OwnPlace>) -> Option<Listed>
     }
 }
 
-/// Puts an entry among the places of its owner. An error where memory ran out.
-fn put(
-    owners: &mut HashMap<Owner, OwnPlaces>,
-    alloc: Global,
-    entry: Listed,
-) -> Result<(), AllocError>
-    ensures { OnOk result ((e : Listed) → is_among owners.new.entries e
-        ≡ (is_at (listed_cmp entry) e || is_among owners.old.entries e)) }
-{
-    if let Some(own) = owners.get_mut(&entry.owner) {
-        return own.insert(alloc, entry.own_place());
-    }
-    let mut own = OwnPlaces::new(alloc);
-    own.insert(alloc, entry.own_place())?;
-    owners.insert(entry.owner, own)?;
-    Ok(())
-}
-
 /// The places of all owners, each owner's by themselves, and the records whose they are: a step
 /// from a place to its record looks here, and not in the facts.
 #[derive(Drop)]
 pub struct Places {
-    own: HashMap<Owner, OwnPlaces>,
+    own: OwnersPlaces,
     held: ByName<Record>,
-    alloc: Global,
 }
 
 impl Places {
@@ -128,9 +93,8 @@ impl Places {
         ensures no_record { (id : RecordId) → held_record result id ≡ None }
     {
         Places {
-            own: HashMap::new(alloc),
+            own: OwnersPlaces::new(alloc),
             held: ByName::new(alloc),
-            alloc,
         }
     }
 
@@ -140,7 +104,7 @@ impl Places {
             ≡ (is_at (listed_cmp entry) e || is_listed self.old e)) }
         ensures records { (id : RecordId) → held_record self.new id ≡ held_record self.old id }
     {
-        put(&mut self.own, self.alloc, entry)
+        self.own.put(entry.owner, entry.own_place())
     }
 
     /// Holds one record more, under its name. An error where memory ran out.
@@ -163,14 +127,14 @@ impl Places {
     pub(crate) fn own(&self, owner: Owner) -> Option<&OwnPlaces>
         ensures { places_in (option_copied result) ≡ owner_places self.now owner }
     {
-        self.own.get(&owner)
+        self.own.get(owner)
     }
 
     /// The least entry of its owner from one on.
     pub(crate) fn first_from(&self, from: Listed) -> Option<Listed>
         ensures { IsFirstInside self.now from.owner (Included from) result }
     {
-        match self.own.get(&from.owner) {
+        match self.own.get(from.owner) {
             Some(own) => listed_for(from.owner, own.first_from(from.own_place())),
             None => None,
         }
@@ -180,7 +144,7 @@ impl Places {
     pub(crate) fn first_above(&self, after: Listed) -> Option<Listed>
         ensures { IsFirstInside self.now after.owner (Excluded after) result }
     {
-        match self.own.get(&after.owner) {
+        match self.own.get(after.owner) {
             Some(own) => listed_for(after.owner, own.first_above(after.own_place())),
             None => None,
         }
@@ -199,7 +163,7 @@ impl Places {
         requires owned { IfSome after (λ e. e.owner ≡ owner) }
         ensures { IsNextMeeting self.now owner first end after result }
     {
-        match self.own.get(&owner) {
+        match self.own.get(owner) {
             Some(own) => listed_for(owner, own.next_meeting(first, end, place_of(after))),
             None => None,
         }
