@@ -1,11 +1,13 @@
 -- What was read and written of a snapshot, and what that tells.
-use Rattle.std.proofs.Common.{◌≡◌, ◌<◌, ℕ, Bool, true, arith, length, drop, List, [], ◌++◌, inl, inr, refl, sym, ap, subst, ◌∙◌, take}
+use Rattle.std.proofs.Common.{◌≡◌, ◌<◌, ◌≤◌, ◌+◌, ℕ, Bool, true, arith, length, length-append, drop, List, [], ◌++◌, inl, inr, refl, sym, ap, subst, ◌∙◌, take}
 use Rattle.std.specs.Prelude.{◌⊎◌, Option, Some, None, Result, Ok, Err, IfOk, IfErr, ◌||◌, ◌&&◌, ◌==◌, nat_lt}
 use Rattle.std.specs.Result.{IsErr, IsErrAnd}
 use Rattle.std.specs.Io.KnownBytes.{Consumes, Keeps}
+use Rattle.std.proofs.Math.ListN.{length-take}
 use Rattle.std.proofs.Math.Seq.{take-append_seam}
 use Rattle.std.proofs.lemmas.Bool.{false≢true}
 use Rattle.std.proofs.lemmas.Bool.Decides.{nat_tests}
+use Rattle.mapdb_lines.specs.Limits.{line_limit, read_ahead}
 use Rattle.mapdb_lines.proofs.LineLemmas.{Consumes-append}
 use Rattle.mapdb_picture.specs.declared.faults.LoadFault.{LoadFault}
 use Rattle.mapdb_picture.specs.declared.faults.LoadFault.TheVariants.{Memory}
@@ -76,6 +78,13 @@ ended_now before now count room is zero some =
 -- the piece that was read into, as it lies in its list
 pub piece_read : (count room : ℕ) (piece rest : List ℕ) → room ≡ length piece → take count (take room (piece ++ rest)) ≡ take count piece
 piece_read count room piece rest is = ap (λ (bs : List ℕ). take count bs) (ap (λ (n : ℕ). take n (piece ++ rest)) is ∙ take-append_seam piece rest)
+
+-- a piece more, where what was read so far is no longer than it may be
+pub grows_little : (input piece new : List ℕ) (count : ℕ) → new ≡ input ++ take count piece → length input ≤ line_limit → count ≤ read_ahead → length new ≤ line_limit + read_ahead
+grows_little input piece new count is short few =
+    let both = ap length is ∙ length-append input (take count piece) in
+    let taken = length-take count piece in
+    omega arith
 
 -- what is told where nothing is told of a text
 pub fault_told : (asked : Asked) (result : Result (Unit {0}) TellFault) (input : List ℕ) (fault : LoadFault) (Over : Type 0) → IsErr result → IsErrAnd result (λ (why : TellFault). why ≡ Load fault)

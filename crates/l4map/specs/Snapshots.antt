@@ -1,8 +1,8 @@
 -- What is told of a snapshot, and how that ends.
-use Rattle.std.specs.Prelude.{◌≡◌, ◌⊎◌, ◌↔◌, ℕ, ◌<◌, ◌≤◌, Bool, true, List, [], ◌++◌, length}
+use Rattle.std.specs.Prelude.{◌≡◌, ◌⊎◌, ◌↔◌, ℕ, ◌<◌, ◌≤◌, ◌+◌, Bool, true, List, [], ◌++◌, length}
 use Rattle.std.specs.Prelude.{Result, Ok, Err, codes}
 use Rattle.mapdb_lines.specs.Fronts.{BeginsWith}
-use Rattle.mapdb_lines.specs.Limits.{line_limit}
+use Rattle.mapdb_lines.specs.Limits.{line_limit, read_ahead}
 use Rattle.mapdb_script.specs.declared.faults.ScriptFault.TheVariants as script
 use Rattle.mapdb_picture.specs.Loading.{explained, pictured}
 use Rattle.mapdb_picture.specs.declared.faults.LoadFault.{LoadFault}
@@ -28,11 +28,16 @@ answer_told (Page space page) bytes = explained bytes space page
 abbrev pub tell_out_of_memory : TellFault
 tell_out_of_memory = Load Memory
 
+-- More was read than a line of a script may have, but by no more than what is asked of a reader at
+-- once.
+abbrev pub IsTooLong : List ℕ → Type 0
+IsTooLong input = (line_limit < length input) × (length input ≤ line_limit + read_ahead)
+
 -- why not all was read, of which this was read
 abbrev pub IsUnread : TellFault → List ℕ → Type 0
 IsUnread Read input = Unit {0}
 IsUnread Write input = ⊥
-IsUnread TooLong input = line_limit < length input
+IsUnread TooLong input = IsTooLong input
 IsUnread (Load fault) input = fault ≡ Memory
 
 -- What is written of a text: all of it, or a prefix of it where the writer failed.
@@ -55,7 +60,7 @@ TellsSnapshot asked (Ok done) input text Over = IsAll input Over
 TellsSnapshot asked (Err Read) input text Over = text ≡ []
 TellsSnapshot asked (Err Write) input text Over = IsAll input Over
     × ((whole : List ℕ) × (answer_told asked input ≡ Ok whole) × BeginsWith whole text)
-TellsSnapshot asked (Err TooLong) input text Over = (text ≡ []) × (line_limit < length input)
+TellsSnapshot asked (Err TooLong) input text Over = (text ≡ []) × IsTooLong input
 TellsSnapshot asked (Err (Load fault)) input text Over =
     (text ≡ []) × ((fault ≡ Memory) ⊎ (IsAll input Over × (answer_told asked input ≡ Err fault)))
 

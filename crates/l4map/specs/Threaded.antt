@@ -64,9 +64,9 @@ IsTextWritten (Err (Script (script.Line number f))) whole front = ⊥
 IsTextWritten (Err (Run why)) whole front = ⊥
 
 -- What was written for an input of which this was read; `Over` says that the reader is over. At a
--- faulty line the reader is over, or no further bytes would change the answer, and little was read
--- behind that line. Nothing is written where the exchange gives no report; the count is at fault
--- exactly where there are none or too many scripts.
+-- faulty line the reader is over, or no further bytes would change the answer; no line was read
+-- further than it must be, and little was read behind that line. Nothing is written where the
+-- exchange gives no report; the count is at fault exactly where there are none or too many scripts.
 abbrev pub TellsThreads : ℕ → Result (Unit {0}) ThreadsFault → List ℕ → List ℕ → Type 0 → Type 0
 TellsThreads capacity (Ok done) input text Over = Over × IsReport capacity input text
 TellsThreads capacity (Err (Script (script.Line number f))) input text Over =

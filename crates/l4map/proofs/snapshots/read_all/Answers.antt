@@ -1,14 +1,15 @@
-use Rattle.std.proofs.Common.{◌≡◌, ◌∙◌, ◌++◌, ◌<◌, ℕ, List, [], false, length, refl, sym, ap, subst, take, drop, arith}
+use Rattle.std.proofs.Common.{◌≡◌, ◌∙◌, ◌++◌, ◌<◌, ℕ, List, [], false, length, refl, sym, ap, subst, take, drop, arith, inr}
 use Rattle.std.specs.Prelude.{Option, Bool, IfOk, IfErr, ◌||◌}
 use Rattle.std.specs.Io.KnownBytes.{Consumes, Keeps}
 use Rattle.mapdb_lines.proofs.LineLemmas.{Consumes-append}
-use Rattle.l4map.proofs.SnapshotLemmas.{consumes_kept, consumes_nothing, consumes_zero, ended_now, piece_read, told_memory, told_read}
+use Rattle.l4map.proofs.SnapshotLemmas.{consumes_kept, consumes_nothing, consumes_zero, ended_now, grows_little, piece_read, told_memory, told_read}
 use Rattle.l4map.proofs.snapshots.read_all.Goals as goal
 
 pub pieces-init : goal.pieces-init
 pieces-init g c = record {
   consumed = subst (λ (xs : List ℕ). Consumes (g.R.Source.left c.args.reader.now) (g.R.Source.left c.args.reader.now) xs) (sym c.new-input.ensures.items)
       (consumes_nothing (g.R.Source.left c.args.reader.now));
+  near = let none = ap length c.new-input.ensures.items in omega arith;
   works = c.requires;
   room = c.in_ok-piece.ensures.len;
 }
@@ -54,6 +55,8 @@ pieces-preserved g c =
           (sym (c.in_ok-extend_from_slice.ensures.items ∙ ap (λ (bs : List ℕ). c.pieces.input.items ++ bs) read))
           (Consumes-append (g.R.Source.left c.args.reader.now) (g.R.Source.left c.pieces.reader) (g.R.Source.left c.read.new.self) c.pieces.input.items
           (take c.in_ok-count.count c.read.new.piece) c.pieces.invariant.consumed c.in_ok-count.ensures.bytes.0);
+      near = grows_little c.pieces.input.items c.deref.result.now c.extend_from_slice.new.self.items c.in_ok-count.count c.in_ok-extend_from_slice.ensures.items
+          (omega arith) (omega (arith, auto, value, c.in_ok-count.ensures.bound));
       works = c.in_ok-count.ensures.failed ∙ ap (λ (b : Bool). b || false) c.pieces.invariant.works;
       room = c.pieces.invariant.room;
     }
@@ -69,5 +72,11 @@ returns-in_err-extend_from_slice-clause-read g c =
       told.1,
     )
 
+pub returns-clause-read : goal.returns-clause-read
+returns-clause-read g c = (c.pieces.input.items, c.pieces.invariant.consumed, tt, (omega arith, c.pieces.invariant.near))
+
 pub returns-clause-over : goal.returns-clause-over
 returns-clause-over g c = tt
+
+pub returns-clause-works : goal.returns-clause-works
+returns-clause-works g c = inr c.pieces.invariant.works

@@ -1,12 +1,14 @@
-use Rattle.std.proofs.Common.{◌≡◌, ◌+◌, ◌-◌, false, vec_len}
+use Rattle.std.proofs.Common.{◌≡◌, ◌≤◌, ◌+◌, ◌-◌, false, length, vec_len}
 use Rattle.std.specs.Io.KnownBytes.{Consumes}
-use Rattle.mapdb_lines.specs.Limits.{line_limit}
+use Rattle.mapdb_lines.specs.Limits.{line_limit, read_ahead}
 use Rattle.l4map.proofs.snapshots.read_all.Given as goal
 
--- what was read so far stands in the input, and no read has failed
+-- what was read so far stands in the input, which is little longer than it may be, and no read has
+-- failed
 abbrev pub invariant-pieces : goal.invariant-pieces
 invariant-pieces g l = record {
   consumed : Consumes (g.R.Source.left l.fn.reader) (g.R.Source.left l.reader) l.input.items;
+  near : length l.input.items ≤ line_limit + read_ahead;
   works : g.R.Source.has_failed l.reader ≡ false;
   room : vec_len l.piece ≡ 65536;
 }
