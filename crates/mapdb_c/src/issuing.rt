@@ -25,8 +25,9 @@ use std::alloc::Global;
 #[repr(C)]
 #[derive(Clone, Copy)]
 pub struct Issued {
-    /// The number of the first record that a Map issued, 0 where there is none. The numbers rise by
-    /// one from it, and the processor is the copy's.
+    /// The number of the first record that a Map issued, where it was done: the numbers rise by one
+    /// from it, and the processor is the copy's. 0 where it issued none, and where memory ran out,
+    /// though some records stand then.
     pub first: u64,
     /// How many operations were issued. Where memory ran out these stand, and are not all.
     pub count: u64,

@@ -65,7 +65,7 @@ pub enum Status {
     NotJson,
     /// The JSON has not the shape of a snapshot.
     SnapshotShape,
-    /// The snapshot has another version.
+    /// The snapshot has another version than 1, 2 and 3.
     SnapshotVersion,
 }
 

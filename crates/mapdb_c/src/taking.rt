@@ -21,7 +21,8 @@ use std::alloc::Global;
 #[repr(C)]
 #[derive(Clone, Copy)]
 pub struct Taken {
-    /// How many operations were new to the copy, and are held now.
+    /// How many operations were new to the copy, where the batch was taken. 0 where memory ran out,
+    /// though some stand then.
     pub count: u64,
     /// Of a bad operation its place in the batch, counted from 0; where memory ran out, of how
     /// many first operations of the batch what is new stands, which are not all.
