@@ -98,7 +98,7 @@ enum mapdb_status {
     MAPDB_BAD_SPACE = 4,         /* the number of a space is 2^16 or more */
     MAPDB_NOT_SERVED = 5,        /* the page is served from no frame */
     MAPDB_SPACE_ENDED = 6,       /* a space that the command names has ended */
-    MAPDB_ROOT_SPACE = 7,        /* a space of number 0 would receive a page, or end */
+    MAPDB_ROOT_SPACE = 7,        /* the space that receives, or ends, has number 0 */
     MAPDB_NUMBERS_SPENT = 8,     /* a record would need a number of 2^40 or more */
     MAPDB_FULL = 9,              /* the copy would hold more than 65,536 operations */
     MAPDB_GRANT = 10,            /* the item's first word is that of a grant item */

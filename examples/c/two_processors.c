@@ -91,6 +91,7 @@ static void send_own(processor *self)
     uint64_t count = 0;
     uint32_t held = 0, own = 0, status = mapdb_counts(&self->copy, &held, &own);
 
+    expect(self, status, "counts");
     for (int tries = 0; self->sent < own && tries < TRIES;) {
         uint32_t end = own - self->sent > BATCH ? self->sent + BATCH : own;
 

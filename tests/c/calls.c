@@ -726,6 +726,7 @@ static unsigned long issued_with(unsigned long refused, bool *reached)
     status = mapdb_unmap(&copy, one, &whole, 0, &issued);
     *reached = *reached || heap_requests >= refused;
     heap_refused = 0;
+    CHECK(status == MAPDB_DONE || status == MAPDB_MEMORY, 1);
     first = issued.count;
     CHECK(own_of(&copy), PIECES + records + first);
     CHECK(status == MAPDB_DONE ? first == records : first < records, 1);
