@@ -1,6 +1,7 @@
 -- What a fresh copy holds after it took what a text says.
 use Rattle.std.proofs.Common.{◌≡◌, ℕ, List, [], ◌++◌, inl, inr, refl, sym, ap, ◌∙◌}
-use Rattle.std.specs.Prelude.{◌⊎◌, Result, Ok, Err}
+use Rattle.std.specs.Prelude.{◌⊎◌, Result, Ok, Err, IfErr}
+use Rattle.std.specs.Result.{IsErrAnd}
 use Rattle.mapdb_facts.specs.declared.operations.Op.{Op}
 use Rattle.mapdb_replica.specs.Replica.{Log, empty}
 use Rattle.mapdb_replica.specs.Taking.{Takes, take_outcome}
@@ -62,3 +63,8 @@ copy_refused bytes items batch fault told old new read same fresh takes is =
       | inl e ↦ inl (is ∙ e)
       | inr e ↦ inr (loaded_is bytes items batch old read same fresh ∙ e ∙ ap (λ (f : LoadFault). Err f) (sym is))
     ]
+
+-- running out of memory is told as it is
+pub memory_told : {T : Type 0} (P : LoadFault → Type 0) (result : Result T LoadFault) → IsErrAnd result (λ (fault : LoadFault). fault ≡ Memory) → IfErr result (λ (fault : LoadFault). (fault ≡ Memory) ⊎ P fault)
+memory_told P (Ok x) told = absurd told
+memory_told P (Err fault) told = inl told

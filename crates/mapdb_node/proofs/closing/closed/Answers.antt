@@ -35,11 +35,11 @@ returns-then-processor-clause-closes c =
       copy,
       subst (λ (n : ℕ). AreSeats n c.args.seats.now) c.into_parts-book.ensures.seats (c.are_given.ensures.0 c.if-not-are_given.false),
       λ history. elim c.then-processor.branch [
-        then-processor-via-then-processor w ↦
-          w.if-processor.true (c.processor.ensures.processor ∙ ap (λ (l : Log). l.processor) copy ∙ history.1)
-      | then-processor-via-else-processor+then-not-are_told w ↦
-          refuted _ w.are_told.result w.are_told.ensures w.if-not-are_told.true
-              (subst (λ (es : List Entry). AreTold es c.args.seats.now) (sym (w.as_slice.ensures.value ∙ entries)) history.0)
+        | then-processor-via-then-processor w ↦
+            w.if-processor.true (c.processor.ensures.processor ∙ ap (λ (l : Log). l.processor) copy ∙ history.1)
+        | then-processor-via-else-processor+then-not-are_told w ↦
+            refuted _ w.are_told.result w.are_told.ensures w.if-not-are_told.true
+            (subst (λ (es : List Entry). AreTold es c.args.seats.now) (sym (w.as_slice.ensures.value ∙ entries)) history.0)
       ],
     )
 
