@@ -15,7 +15,7 @@ replays : (processor : ℕ) (shared : Sharing) (seats : List Seated) (result : R
     → IfOk result (λ (history : Ledger). Replays (empty processor) history.entries history.copy)
 replays processor shared seats (Ok history) closes booked =
     subst (λ (book : Ledger). Replays (empty processor) book.entries book.copy) (sym closes.0)
-    (subst (λ (p : ℕ). Replays (empty p) shared.book.entries shared.book.copy) closes.2.1 booked)
+    (subst (λ (p : ℕ). Replays (empty p) shared.book.entries shared.book.copy) closes.2.1 booked.0)
 replays processor shared seats (Err fault) closes booked = tt
 
 -- no two seats have one number
