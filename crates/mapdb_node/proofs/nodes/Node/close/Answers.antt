@@ -40,8 +40,9 @@ told processor shared seats (Err fault) closes = tt
 
 pub returns-clause-replays : goal.returns-clause-replays
 returns-clause-replays c =
-    replays c.self.inside.processor c.into_inner.result c.args.seats.items c.closed.result
-    (subst (λ (seats : List Seated). Closes c.self.inside.processor c.into_inner.result seats c.closed.result) c.as_slice.ensures.value c.closed.ensures.closes) c.closed.ensures.booked
+    subst (λ (p : ℕ). IfOk c.closed.result (λ (history : Ledger). Replays (empty p) history.entries history.copy)) c.self.view_is
+    (replays c.self.inside.processor c.into_inner.result c.args.seats.items c.closed.result
+    (subst (λ (seats : List Seated). Closes c.self.inside.processor c.into_inner.result seats c.closed.result) c.as_slice.ensures.value c.closed.ensures.closes) c.closed.ensures.booked)
 
 pub returns-clause-apart : goal.returns-clause-apart
 returns-clause-apart c =
