@@ -3,7 +3,7 @@
 ghost use Rattle.std.specs.Prelude.{◌≡◌};
 ghost use Rattle.l4map.specs.Snapshots.{bad_message, page_message, snapshot_message, take_message};
 ghost use Rattle.l4map.specs.Snapshots.{text_message};
-ghost use Rattle.l4map.specs.Statuses.{IsTold, memory_message, message_of};
+ghost use Rattle.l4map.specs.Statuses.{IsTold, message_of};
 ghost use Rattle.l4map.specs.Threaded.{run_message, threads_message};
 
 use crate::snapshots::TellFault;

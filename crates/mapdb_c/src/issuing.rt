@@ -1,9 +1,8 @@
 //! What a space commands at a copy, by value or by the kernel's words.
 
 ghost use Rattle.std.specs.Prelude.{◌≡◌};
-ghost use Rattle.std.specs.declared.option.Option.TheVariants.{None, Some};
+ghost use Rattle.std.specs.declared.option.Option.TheVariants.{Some};
 ghost use Rattle.std.specs.declared.result.Result.TheVariants.{Err, Ok};
-ghost use Rattle.mapdb_replica.specs.Replica.{Log};
 ghost use Rattle.mapdb_replica.specs.declared.commands.Command.{Command};
 ghost use Rattle.mapdb_c.specs.Issuing.{IssuesAs, IssuesFor, applied_told, issued_with};
 ghost use Rattle.mapdb_c.specs.Issuing.{issue_fault_told};

@@ -1,6 +1,6 @@
 //! Processors that run their scripts side by side, and tell each other what they issue.
 
-ghost use Rattle.std.specs.Prelude.{◌≡◌, ◌⊎◌, [], ◌<◌, ◌≤◌, ◌↔◌, length, map, IsTrue, IfErr, IfOk};
+ghost use Rattle.std.specs.Prelude.{◌≡◌, [], ◌<◌, ◌≤◌, ◌↔◌, length, map, IsTrue, IfErr, IfOk};
 ghost use Rattle.std.specs.Prelude.{OnOk};
 ghost use Rattle.mapdb_exchange.specs.Counts.{IsCount};
 ghost use Rattle.mapdb_exchange.specs.Faults.{IsSetupFault};

@@ -2,7 +2,7 @@
 
 ghost use Rattle.std.specs.Prelude.{◌≡◌, ◌⊎◌, true, [], ◌∷◌, ◌++◌, IfErr, IfOk, OnOk};
 ghost use Rattle.mapdb_exchange.specs.Calls.{IsTakingFault, held_in, ops_in, taken_in};
-ghost use Rattle.mapdb_exchange.specs.Links.{AreBatches, AreNumbered, is_expected};
+ghost use Rattle.mapdb_exchange.specs.Links.{AreNumbered, is_expected};
 
 use crate::faults::{NodeFault, WorkFault};
 use crate::links::Incoming;

@@ -1,6 +1,6 @@
 //! What an exchange reports, and the comparison of the histories of all processors.
 
-ghost use Rattle.std.specs.Prelude.{◌≡◌, ◌<◌, ◌≤◌, ◌≢◌, ◌∷◌, ◌+◌, ◌↔◌, ℕ, true, not, IsTrue};
+ghost use Rattle.std.specs.Prelude.{◌≡◌, ◌<◌, ◌≢◌, ◌∷◌, ◌+◌, ℕ, true, not, IsTrue};
 ghost use Rattle.std.specs.Prelude.{length, map, drop, slice_index_or, ◌==◌};
 ghost use Rattle.std.specs.List.{list_all, list_any};
 ghost use Rattle.mapdb_exchange.specs.Reports.{NoneTwice, AreParts, HoldSame, IsPartOfReport};

@@ -1,9 +1,7 @@
 //! Runs of pages with equal bits.
 ghost use Rattle.std.specs.Prelude.{◌≡◌, ◌≤◌, ◌<◌, ◌+◌, ◌↔◌, ◌||◌, ℕ, true, [], IsTrue, IfOk};
-ghost use Rattle.std.specs.Prelude.{IfErr, IfSome, IfNone, OnOk, OnErr, refl};
-ghost use Rattle.mapdb_join.specs.Atoms.{Clashes, IsSame, IsUnion};
+ghost use Rattle.std.specs.Prelude.{IfSome, IfNone, OnOk, OnErr, refl};
 ghost use Rattle.mapdb_join.specs.Bits.{has_bit};
-ghost use Rattle.mapdb_join.specs.Faults.{FaultLeaves};
 ghost use Rattle.mapdb_join.specs.Lawful.Bits.{no_exclusion};
 ghost use Rattle.mapdb_join.specs.Runs.{HasNothingFrom, HasRegion, IsLeastRun, IsRuns, bits_after};
 ghost use Rattle.mapdb_join.specs.Runs.{has_at, in_region};

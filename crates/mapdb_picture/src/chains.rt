@@ -1,6 +1,6 @@
 //! The texts of chains: what each record of a chain names, and what is revoked of it.
 
-ghost use Rattle.std.specs.Prelude.{◌≡◌, IfOk, string_bytes, Some, true, false};
+ghost use Rattle.std.specs.Prelude.{◌≡◌, IfOk, string_bytes, Some, true};
 ghost use Rattle.mapdb_facts.specs.Facts.{state_of_facts};
 ghost use Rattle.mapdb_facts.specs.WellFormed.{IsFormedRecord};
 ghost use Rattle.mapdb_fpage.specs.Place.{holds};

@@ -9,7 +9,7 @@ impl Replica {
     ghost use Rattle.mapdb_facts.specs.State.{IsSound, state_of};
     ghost use Rattle.mapdb_replica.specs.Agreement.{knows_all};
 
-    /// Whether the operation, which is well-formed, says something that is not held.
+    /// Whether the operation says something that is not held.
     pub(crate) fn is_new(&self, op: &Op) -> bool
         ensures { result ≡ is_new (state_of self.now.ops) op.now }
     {

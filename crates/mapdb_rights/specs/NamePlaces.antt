@@ -24,5 +24,5 @@ place_in places id =
     else Some (near_word places.near.items id - 1)
 
 -- each name has the place at which it stands, and no other has one
-pub record ArePlaces (places : NamePlaces) (names : List RecordId) : Type 0 where
+pub record ArePlacesOf (places : NamePlaces) (names : List RecordId) : Type 0 where
   pub found : (id : RecordId) → place_in places id ≡ place_of id names

@@ -15,7 +15,7 @@ pub record IsSpot (list : List PageChange) (page spot : ℕ) : Type 0 where
       → page < (get_or list k d).page
 
 -- the change at this index stands at the page
-pub record StandsAt (list : List PageChange) (page index : ℕ) : Type 0 where
+pub record StandsAtPage (list : List PageChange) (page index : ℕ) : Type 0 where
   pub inside : index < length list
   pub here : (d : PageChange) → (get_or list index d).page ≡ page
 

@@ -27,12 +27,20 @@ pub(crate) enum Unread {
 }
 
 impl From<AllocError> for Unread {
+    ghost use Rattle.mapdb_snapshot.specs.declared.written_form.Unread.TheVariants as variant;
+
+    ghost from_gives = { λ _ unread. unread ≡ variant.Memory };
+
     fn from(_refused: AllocError) -> Unread {
         Unread::Memory
     }
 }
 
 impl<T: Drop> From<AllocFailed<T>> for Unread {
+    ghost use Rattle.mapdb_snapshot.specs.declared.written_form.Unread.TheVariants as variant;
+
+    ghost from_gives = { λ _ unread. unread ≡ variant.Memory };
+
     fn from(_refused: AllocFailed<T>) -> Unread {
         Unread::Memory
     }

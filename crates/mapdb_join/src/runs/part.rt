@@ -1,9 +1,5 @@
 //! Runs that take one region at a time.
-ghost use Rattle.std.specs.Prelude.{◌≡◌, IfOk, IfErr, OnOk};
-ghost use Rattle.mapdb_join.specs.Atoms.{Clashes, IsSame, IsUnion};
-ghost use Rattle.mapdb_join.specs.Faults.{FaultKeeps};
 ghost use Rattle.mapdb_join.specs.Regions.{starts_of};
-ghost use Rattle.mapdb_join.specs.Runs.{has_at};
 
 use crate::merge::MergeFault;
 use crate::part::MergePart;

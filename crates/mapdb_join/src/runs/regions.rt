@@ -1,5 +1,5 @@
 //! Bits that are added over a region of pages.
-ghost use Rattle.std.specs.Prelude.{◌≡◌, ◌∷◌, [], ◌++◌, ◌+◌, ◌≤◌, ◌<◌, ◌^◌, List, length, take};
+ghost use Rattle.std.specs.Prelude.{◌≡◌, ◌∷◌, [], ◌++◌, ◌+◌, ◌≤◌, ◌<◌, List, length};
 ghost use Rattle.std.specs.Prelude.{map, bit_or, IsTrue, ◌↔◌, OnOk, OnErr, IfOk, slice_range};
 ghost use Rattle.std.specs.List.{All, splice};
 ghost use Rattle.mapdb_join.specs.Runs.{Ascends, HasOver, IsOver, IsRuns, count_below, last_bits};

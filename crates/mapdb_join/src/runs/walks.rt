@@ -1,7 +1,6 @@
 //! Walks over the runs of one list.
-ghost use Rattle.std.specs.Prelude.{◌≡◌, ◌+◌, ◌≤◌, ◌<◌, ◌⊎◌, ℕ, bit_or, IsTrue, ◌↔◌, OnOk, OnErr};
-ghost use Rattle.std.specs.Prelude.{IfSome, IfNone};
-ghost use Rattle.mapdb_join.specs.Runs.{CoversAll, HasNothingFrom, IsBothOf, IsLeastRun};
+ghost use Rattle.std.specs.Prelude.{IsTrue, ◌↔◌, OnOk, OnErr};
+ghost use Rattle.mapdb_join.specs.Runs.{CoversAll, IsBothOf};
 ghost use Rattle.mapdb_join.specs.Runs.{IsPartlyBoth, IsRuns};
 
 use crate::runs::bounds::{BITS_LIMIT, RUN_LIMIT};

@@ -14,7 +14,7 @@ use Rattle.std.proofs.lemmas.List.Sorted.{IsPartitionedBy-leb}
 use Rattle.mapdb_rights.specs.declared.index.changes.Change.{Change}
 use Rattle.mapdb_rights.specs.declared.index.few_changes.PageChange.{PageChange}
 use Rattle.mapdb_rights.specs.OwnChanges.{IsLastChange, IsLastUpTo, IsNoneUntil, listed_change, mapped_change, one_change, or_change}
-use Rattle.mapdb_rights.specs.PageOrder.{IsGap, IsSpot, PagesRise, StandsAt}
+use Rattle.mapdb_rights.specs.PageOrder.{IsGap, IsSpot, PagesRise, StandsAtPage}
 
 other_page : (a b : ℕ) → (a ≡ b → ⊥) → nat_eq a b ≡ false
 other_page a b apart = elim (cases_Bool (nat_eq a b)) [ inl same ↦ absurd (apart (eqb-true a b same)) | inr other ↦ other ]
@@ -61,7 +61,7 @@ module _ (list : List PageChange) (rise : PagesRise list) where
     | inr less ↦ let l : (get_or list i d).page < (get_or list j d).page = rise i j d less inside in omega (arith, l)
   ]
 
-  pub listed_here : (page at : ℕ) (d : PageChange) → StandsAt list page at → Some (get_or list at d).change ≡ listed_change list page
+  pub listed_here : (page at : ℕ) (d : PageChange) → StandsAtPage list page at → Some (get_or list at d).change ≡ listed_change list page
   listed_here page at d there = sym (listed_there list rise at d there.inside) ∙ ap (listed_change list) (there.here d)
 
   pub listed_gap : (page at : ℕ) → IsGap list page at → listed_change list page ≡ None
@@ -132,7 +132,7 @@ module _ (list : List PageChange) (rise : PagesRise list) where
 
   -- ---- one less
 
-  module _ (page at : ℕ) (there : StandsAt list page at) where
+  module _ (page at : ℕ) (there : StandsAtPage list page at) where
     low_page : (k : ℕ) (d : PageChange) → k < at → (get_or (remove list at) k d).page ≡ (get_or list k d).page
     low_page k d low = page_of (get_or (remove list at) k d) (get_or list k d) (get_or-remove_below list at d k low there.inside)
 
@@ -158,7 +158,7 @@ module _ (list : List PageChange) (rise : PagesRise list) where
 
   -- ---- one in place of another at its page
 
-  module _ (page at : ℕ) (change : Change) (there : StandsAt list page at) where
+  module _ (page at : ℕ) (change : Change) (there : StandsAtPage list page at) where
     set_page : (k : ℕ) (d : PageChange) → (get_or (slice_set list at (record { page = page; change = change })) k d).page ≡ (get_or list k d).page
     set_page k d = elim (two k at) [
       | inl same ↦
@@ -236,7 +236,7 @@ module _ (list : List PageChange) (rise : PagesRise list) where
 -- ---- the changes then
 
 -- without the one at the page
-pub removed : (list : List PageChange) → PagesRise list → (at page : ℕ) → StandsAt list page at
+pub removed : (list : List PageChange) → PagesRise list → (at page : ℕ) → StandsAtPage list page at
     → (q : ℕ) → listed_change (remove list at) q ≡ (if nat_eq page q then None else listed_change list q)
 removed [] rise at page there q = let i : at < 0 = there.inside in absurd (omega (arith, i))
 removed (x ∷ xs) rise zero page there q = by (nat_eq page q) refl
@@ -274,7 +274,7 @@ past x page change rest q front = by (nat_eq page q) refl
     by false apart = refl
 
 -- with one in place of another at its page
-pub put_over : (list : List PageChange) → PagesRise list → (at page : ℕ) (change : Change) → StandsAt list page at
+pub put_over : (list : List PageChange) → PagesRise list → (at page : ℕ) (change : Change) → StandsAtPage list page at
     → (q : ℕ) → listed_change (slice_set list at (record { page = page; change = change })) q ≡ (if nat_eq page q then Some change else listed_change list q)
 put_over [] rise at page change there q = let i : at < 0 = there.inside in absurd (omega (arith, i))
 put_over (x ∷ xs) rise zero page change there q = by (nat_eq page q) refl

@@ -5,7 +5,7 @@ ghost use Rattle.std.specs.Prelude.{get_or, length, nat_eq, slice_set, if◌then
 ghost use Rattle.mapdb_rights.specs.Changes.{IsStretch};
 ghost use Rattle.mapdb_rights.specs.OwnChanges.{IsLastUpTo, IsNoneUntil, listed_change};
 ghost use Rattle.mapdb_rights.specs.OwnChanges.{mapped_change};
-ghost use Rattle.mapdb_rights.specs.PageOrder.{IsGap, IsSpot, PagesRise, StandsAt};
+ghost use Rattle.mapdb_rights.specs.PageOrder.{IsGap, IsSpot, PagesRise, StandsAtPage};
 ghost use Rattle.mapdb_rights.specs.declared.index.few_changes.PageChange.{PageChange};
 
 use super::changes::{Change, Stretch};
@@ -86,7 +86,7 @@ pub(crate) fn list_stretch(list: &[PageChange], first: Change, page: u64) -> Str
 /// Where the change at a page stands, or else where one belongs.
 fn index_of(list: &[PageChange], page: u64) -> Result<usize, usize>
     requires { PagesRise list.now }
-    ensures there { IfOk result (StandsAt list.now page) }
+    ensures there { IfOk result (StandsAtPage list.now page) }
     ensures gap { IfErr result (IsGap list.now page) }
 {
     let spot = spot_of(list, page);

@@ -1,10 +1,10 @@
 //! The least of a few places, found by looking at each.
 
-ghost use Rattle.std.specs.Prelude.{◌≡◌, IfSome, option_map};
+ghost use Rattle.std.specs.Prelude.{◌≡◌};
 ghost use Rattle.std.specs.BTreeMap.Range.{is_from_start};
-ghost use Rattle.mapdb_rights.specs.OwnPlaces.{AreAligned, IsAlignedPlace, IsLastWhereSaid};
+ghost use Rattle.mapdb_rights.specs.OwnPlaces.{AreAligned, IsAlignedPlace};
 ghost use Rattle.mapdb_rights.specs.OwnPlaces.{IsFirstPlaceWhere, IsNextPlace, IsSweptOn};
-ghost use Rattle.mapdb_rights.specs.OwnPlaces.{few_ahead, found_place, is_beyond};
+ghost use Rattle.mapdb_rights.specs.OwnPlaces.{few_ahead, is_beyond};
 ghost use Rattle.mapdb_rights.specs.OwnPlaces.{is_next, lesser_place, lesser_where, place_cmp};
 
 use super::own_places::{NextPlace, OwnPlace, Sweep};

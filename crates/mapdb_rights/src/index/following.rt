@@ -1,13 +1,8 @@
 //! What an operation does to cached rights.
 
-ghost use Rattle.std.specs.Prelude.{◌≡◌, ℕ, true, OnOk};
-ghost use Rattle.mapdb_fpage.specs.Place.{holds};
-ghost use Rattle.mapdb_facts.specs.Looking.{Holds};
-ghost use Rattle.mapdb_facts.specs.Names.{same_space};
+ghost use Rattle.std.specs.Prelude.{◌≡◌, true, OnOk};
 ghost use Rattle.mapdb_facts.specs.declared.operations.Record.{Record};
-ghost use Rattle.mapdb_rights.specs.Pending.{IsPending};
 ghost use Rattle.mapdb_facts.specs.Facts.{state_of_facts};
-ghost use Rattle.mapdb_facts.specs.State.{State, join, said};
 ghost use Rattle.mapdb_facts.specs.WellFormed.{is_formed};
 ghost use Rattle.mapdb_facts.specs.declared.operations.Op.{Op};
 ghost use Rattle.mapdb_rights.specs.Following.{Stood, Stands};

@@ -1,7 +1,7 @@
 //! Where names of records stand in a list of them: near ones by their number, far ones in a map.
 
-ghost use Rattle.std.specs.Prelude.{◌≡◌, ◌==◌, ◌+◌, ◌<◌, ◌^◌, ℕ, None, Some, IfSome, OnOk, OnErr};
-ghost use Rattle.std.specs.Prelude.{if◌then◌else◌, slice_index, vec_len};
+ghost use Rattle.std.specs.Prelude.{◌≡◌, ◌==◌, ◌+◌, ◌*◌, ◌<◌, ◌^◌, ℕ, None, Some, IfSome, OnOk};
+ghost use Rattle.std.specs.Prelude.{OnErr, if◌then◌else◌, slice_index, vec_len};
 ghost use Rattle.mapdb_facts.specs.Names.{same_id};
 ghost use Rattle.mapdb_facts.specs.declared.names.RecordId.{RecordId};
 ghost use Rattle.mapdb_rights.specs.NamePlaces.{near_word, place_in};
@@ -32,11 +32,13 @@ fn near_word(near: &[Vec<u32>], id: RecordId) -> u32
     }
 }
 
-/// The word for a name at a place, where the name is near: its number lies not far beyond the names
-/// that came before it. So the words of a processor are never many more than the names.
+/// The word for a name at a place, where the name is near: its number lies not far beyond twice the
+/// names that came before it. So the list of each processor has at most [`NEAR_NUMBERS`] words more
+/// than twice the names.
 fn word_for(id: RecordId, at: usize) -> Option<u32>
     ensures word { IfSome result (λ word. word ≡ at + 1) }
     ensures number { IfSome result (λ _. id.number + 1 < 2 ^ 64) }
+    ensures near { IfSome result (λ _. id.number < 2 * at + NEAR_NUMBERS) }
 {
     let limit = (at as u64).saturating_mul(2).saturating_add(NEAR_NUMBERS);
     if id.processor < PROCESSOR_LIMIT && id.number < limit && at < u32::MAX as usize {

@@ -18,13 +18,13 @@ pub struct Names {
 impl Model for Names {
     ghost use Rattle.std.specs.Prelude.{List};
     ghost use Rattle.mapdb_facts.specs.declared.names.RecordId.{RecordId};
-    ghost use Rattle.mapdb_rights.specs.NamePlaces.{ArePlaces};
+    ghost use Rattle.mapdb_rights.specs.NamePlaces.{ArePlacesOf};
 
     ghost Value = { List RecordId };
 
     ghost view = { λ a. a.names.items };
 
-    ghost invariant = { λ a. ArePlaces a.places a.names.items };
+    ghost invariant = { λ a. ArePlacesOf a.places a.names.items };
 }
 
 impl Names {

@@ -1,6 +1,5 @@
 //! A set of orders of places.
 
-ghost use Rattle.std.specs.Prelude.{◌≡◌};
 ghost use Rattle.mapdb_rights.specs.Standing.{IsNextOrder, IsWithOrder};
 
 use crate::limits::ORDER_LIMIT;

@@ -6,7 +6,7 @@ ghost use Rattle.std.specs.BTreeMap.{is_at};
 ghost use Rattle.std.specs.BTreeMap.Range.{is_from_start};
 ghost use Rattle.std.specs.Ordering.{is_lt};
 ghost use Rattle.std.specs.declared.ops.Bound.TheVariants.{Excluded, Included};
-ghost use Rattle.mapdb_rights.specs.OwnPlaces.{AreAligned, IsAlignedPlace, IsLastWhereSaid};
+ghost use Rattle.mapdb_rights.specs.OwnPlaces.{AreAligned, IsAlignedPlace};
 ghost use Rattle.mapdb_rights.specs.OwnPlaces.{IsFirstPlaceWhere, IsNextPlace, found_place};
 ghost use Rattle.mapdb_rights.specs.OwnPlaces.{IsSweptOn, ahead, at_start, many_ahead, own_list};
 ghost use Rattle.mapdb_rights.specs.OwnPlaces.{own_meets, place_cmp, stands};

@@ -1,8 +1,8 @@
 //! Cached rights follow from the parents' again, from what is stale down to what has its pages from
 //! there. Frames come with the rights.
 
-ghost use Rattle.std.specs.Prelude.{◌≡◌, ◌≤◌, ◌<◌, ◌+◌, ◌-◌, ◌*◌, ◌++◌, ◌∷◌, ◌⊎◌, [], ℕ, None};
-ghost use Rattle.std.specs.Prelude.{false, true, OnOk};
+ghost use Rattle.std.specs.Prelude.{◌≡◌, ◌≤◌, ◌<◌, ◌+◌, ◌-◌, ◌*◌, ◌++◌, ◌∷◌, ◌⊎◌, [], ℕ};
+ghost use Rattle.std.specs.Prelude.{true, OnOk};
 ghost use Rattle.mapdb_facts.specs.Facts.{state_of_facts};
 ghost use Rattle.mapdb_facts.specs.declared.names.RecordId.{RecordId};
 ghost use Rattle.mapdb_rights.specs.Caching.{AreRights, IsSettled, covers};

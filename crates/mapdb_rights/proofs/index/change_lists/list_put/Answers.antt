@@ -4,7 +4,7 @@ use Rattle.std.specs.List.{refill}
 use Rattle.std.proofs.lemmas.List.{length-set}
 use Rattle.mapdb_rights.specs.declared.index.few_changes.PageChange.{PageChange}
 use Rattle.mapdb_rights.specs.OwnChanges.{listed_change}
-use Rattle.mapdb_rights.specs.PageOrder.{IsGap, PagesRise, StandsAt}
+use Rattle.mapdb_rights.specs.PageOrder.{IsGap, PagesRise, StandsAtPage}
 use Rattle.mapdb_rights.proofs.Changes.FewChanges.{insert_rises, put_between, put_over, refilled, set_rises}
 use Rattle.mapdb_rights.proofs.index.change_lists.list_put.Goals as goal
 
@@ -17,7 +17,7 @@ returns-in-Ok-clause-rise c =
     refilled xs c.set_at.new.list (ap (λ (l : List PageChange). length l) is ∙ length-set xs c.in-Ok.index next) ∙ is in
     subst (λ (l : List PageChange). PagesRise l) (sym all)
     (set_rises xs c.requires c.args.page c.in-Ok.index c.args.change
-    (subst (λ (l : List PageChange). StandsAt l c.args.page c.in-Ok.index) c.as_slice.ensures c.in-Ok.ensures.there))
+    (subst (λ (l : List PageChange). StandsAtPage l c.args.page c.in-Ok.index) c.as_slice.ensures c.in-Ok.ensures.there))
 
 pub returns-in-Ok-clause-put : goal.returns-in-Ok-clause-put
 returns-in-Ok-clause-put c q =
@@ -27,7 +27,7 @@ returns-in-Ok-clause-put c q =
     ap (λ (l : List PageChange). listed_change l q)
     (refilled xs c.set_at.new.list (ap (λ (l : List PageChange). length l) is ∙ length-set xs c.in-Ok.index next) ∙ is)
     ∙ put_over xs c.requires c.in-Ok.index c.args.page c.args.change
-    (subst (λ (l : List PageChange). StandsAt l c.args.page c.in-Ok.index) c.as_slice.ensures c.in-Ok.ensures.there) q
+    (subst (λ (l : List PageChange). StandsAtPage l c.args.page c.in-Ok.index) c.as_slice.ensures c.in-Ok.ensures.there) q
 
 pub returns-in_ok-insert-in-Err-clause-rise : goal.returns-in_ok-insert-in-Err-clause-rise
 returns-in_ok-insert-in-Err-clause-rise c =

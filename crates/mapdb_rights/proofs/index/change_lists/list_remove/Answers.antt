@@ -1,7 +1,7 @@
 use Rattle.std.proofs.Common.{List, ap, subst, sym, ◌∙◌}
 use Rattle.mapdb_rights.specs.declared.index.few_changes.PageChange.{PageChange}
 use Rattle.mapdb_rights.specs.OwnChanges.{listed_change}
-use Rattle.mapdb_rights.specs.PageOrder.{IsGap, PagesRise, StandsAt}
+use Rattle.mapdb_rights.specs.PageOrder.{IsGap, PagesRise, StandsAtPage}
 use Rattle.mapdb_rights.proofs.Changes.FewChanges.{listed_without, remove_rises, removed}
 use Rattle.mapdb_rights.proofs.index.change_lists.list_remove.Goals as goal
 
@@ -9,13 +9,13 @@ pub returns-in-Ok-clause-rise : goal.returns-in-Ok-clause-rise
 returns-in-Ok-clause-rise c =
     subst (λ (l : List PageChange). PagesRise l) (sym c.remove.ensures.items)
     (remove_rises c.args.list.now.items c.requires c.args.page c.in-Ok.index
-    (subst (λ (l : List PageChange). StandsAt l c.args.page c.in-Ok.index) c.as_slice.ensures c.in-Ok.ensures.there))
+    (subst (λ (l : List PageChange). StandsAtPage l c.args.page c.in-Ok.index) c.as_slice.ensures c.in-Ok.ensures.there))
 
 pub returns-in-Ok-clause-removed : goal.returns-in-Ok-clause-removed
 returns-in-Ok-clause-removed c q =
     ap (λ (l : List PageChange). listed_change l q) c.remove.ensures.items
     ∙ removed c.args.list.now.items c.requires c.in-Ok.index c.args.page
-    (subst (λ (l : List PageChange). StandsAt l c.args.page c.in-Ok.index) c.as_slice.ensures c.in-Ok.ensures.there) q
+    (subst (λ (l : List PageChange). StandsAtPage l c.args.page c.in-Ok.index) c.as_slice.ensures c.in-Ok.ensures.there) q
 
 pub returns-in_default-clause-removed : goal.returns-in_default-clause-removed
 returns-in_default-clause-removed c =
