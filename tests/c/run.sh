@@ -60,7 +60,7 @@ try "the header's calls are those of the archive" declared
 
 warnings="-Wall -Wextra -Wpedantic -Wshadow -Werror"
 c_files="c/mapdb_heap.c examples/c/smallest.c examples/c/two_processors.c tests/c/calls.c
-    tests/c/counting_heap.c tests/c/orders.c tests/c/script.c bench/c/calls.c"
+    tests/c/counting_heap.c tests/c/memory.c tests/c/orders.c tests/c/script.c bench/c/calls.c"
 for compiler in gcc clang; do
     command -v $compiler >/dev/null 2>&1 || continue
     for file in $c_files; do
@@ -91,6 +91,7 @@ for way in plain sanitized; do
         compiled smallest_$way gcc $flags examples/c/smallest.c c/mapdb_heap.c
         compiled two_processors_$way gcc $flags examples/c/two_processors.c c/mapdb_heap.c
         compiled calls_$way gcc $flags tests/c/calls.c tests/c/counting_heap.c
+        compiled memory_$way gcc $flags tests/c/memory.c tests/c/counting_heap.c
         compiled orders_$way gcc $flags tests/c/orders.c c/mapdb_heap.c
         compiled script_$way gcc $flags tests/c/script.c c/mapdb_heap.c
         try "the heap, $way" gcc $flags -c -o "$build/heap_$way.o" tests/c/counting_heap.c
@@ -102,6 +103,7 @@ for way in plain sanitized; do
         try "two processors, $way, turn $turn" "$build/two_processors_$way"
     done
     try "calls, $way" "$build/calls_$way"
+    try "memory, $way" "$build/memory_$way"
     try "orders, $way" "$build/orders_$way"
     try "calls in C++, $way" "$build/calls_cpp_$way"
 done
@@ -135,7 +137,7 @@ if command -v make >/dev/null 2>&1; then
 fi
 
 if command -v valgrind >/dev/null 2>&1; then
-    for program in smallest_plain two_processors_plain calls_plain orders_plain; do
+    for program in smallest_plain two_processors_plain calls_plain memory_plain orders_plain; do
         try "$program under valgrind" valgrind -q --leak-check=full \
             --errors-for-leak-kinds=all --error-exitcode=9 "$build/$program"
     done

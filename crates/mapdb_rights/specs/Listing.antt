@@ -22,7 +22,8 @@ use Rattle.mapdb_rights.specs.declared.index.places.Owner.{Owner}
 use Rattle.mapdb_rights.specs.declared.index.places.Owner.TheVariants.{Record, Space}
 use Rattle.mapdb_rights.specs.declared.index.places.Places.{Places}
 pub use Rattle.mapdb_rights.specs.Owners.{same_owner}
-use Rattle.mapdb_rights.specs.OwnPlaces.{IsAlignedPlace, own_list, own_meets, own_pages, place_cmp, stands}
+use Rattle.mapdb_rights.specs.OwnPlaces.{IsAlignedPlace, own_list, own_meets, own_pages}
+use Rattle.mapdb_rights.specs.OwnPlaces.{place_cmp, stands}
 
 -- records come before spaces
 abbrev pub owner_cmp : Owner → Owner → Ordering
