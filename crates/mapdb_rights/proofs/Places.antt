@@ -1,11 +1,3 @@
-pub mod LeastPlaces
-pub mod Meetings
-pub mod OrderBits
-pub mod OwnersPlaces
-pub mod ByOwners
-pub mod PlaceLists
 pub mod PlaceNames
-pub mod PlaceOrder
 pub mod SharedPlaces
 pub mod Sweeps
-pub mod OwnSweeps

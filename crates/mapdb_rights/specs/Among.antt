@@ -8,12 +8,12 @@ use Rattle.mapdb_facts.specs.Names.{is_after, is_before, is_root, root}
 use Rattle.mapdb_facts.specs.State.{State}
 use Rattle.mapdb_facts.specs.declared.names.RecordId.{RecordId}
 use Rattle.mapdb_facts.specs.declared.names.Space.{Space}
-use Rattle.mapdb_rights.specs.declared.index.places.Listed.{Listed}
+use Rattle.mapdb_lists.specs.declared.places.Listed.{Listed}
+use Rattle.mapdb_lists.specs.declared.places.Places.{Places}
+use Rattle.mapdb_lists.specs.Listing.{is_listed}
 use Rattle.mapdb_rights.specs.Live.{IsLive}
 use Rattle.mapdb_rights.specs.PageRights.{is_record_into}
 use Rattle.mapdb_rights.specs.Right.{rights_at}
-use Rattle.mapdb_rights.specs.declared.index.places.Places.{Places}
-use Rattle.mapdb_rights.specs.Listing.{is_listed}
 
 -- a name that is sound, above another, with none of the sought ones above the other before it
 pub record IsLeastName (Sound Sought : RecordId

@@ -1,6 +1,5 @@
 -- Rights that are kept beside a state, by name and page.
-use Rattle.std.specs.Prelude.{◌≡◌, ℕ, Bool, true, false, ◌&&◌, ◌⊎◌, nat_le, nat_lt, Some}
-use Rattle.std.specs.Prelude.{if◌then◌else◌}
+use Rattle.std.specs.Prelude.{◌≡◌, ℕ, true, false, ◌⊎◌, Some, if◌then◌else◌}
 use Rattle.mapdb_fpage.specs.Bounds.{page_limit}
 use Rattle.mapdb_fpage.specs.Place.{holds}
 use Rattle.mapdb_fpage.specs.RightSets.{includes, is_empty, rights_where}
@@ -12,12 +11,9 @@ use Rattle.mapdb_facts.specs.declared.names.RecordId.{RecordId}
 use Rattle.mapdb_facts.specs.declared.operations.Op.{Op}
 use Rattle.mapdb_facts.specs.declared.operations.Op.TheVariants.{Born, Closed, Cut}
 use Rattle.mapdb_facts.specs.declared.operations.Record.{Record}
+use Rattle.mapdb_lists.specs.Changes.{Cached, covers}
 use Rattle.mapdb_rights.specs.Frame.{frame_at}
 use Rattle.mapdb_rights.specs.Right.{reaches, right_by, rights_at, source_page}
-
--- rights by name and page
-abbrev pub Cached : Type 0
-Cached = RecordId → ℕ → Rights
 
 -- The cached rights stand for the state: at each page of each name they are the rights of that
 -- record there.
@@ -52,10 +48,6 @@ abbrev pub OperationsStir : Type 0
 OperationsStir =
     (S : State) (op : Op) (cached : Cached) → AreRights S cached
     → (id : RecordId) (page : ℕ) → IsSettled (join S (said op)) cached id page ⊎ Stirs S op id page
-
--- the page is one of these pages of the record, from the first up to before the end
-abbrev pub covers : RecordId → ℕ → ℕ → RecordId → ℕ → Bool
-covers id first end other page = same_id id other && (nat_le first page && nat_lt page end)
 
 -- over these pages of the record the rights are taken anew from the parent's, elsewhere they stay
 abbrev pub IsTakenAnew : State → Cached → RecordId → ℕ → ℕ → Cached → Type 0

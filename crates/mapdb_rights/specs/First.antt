@@ -7,9 +7,9 @@ use Rattle.mapdb_facts.specs.Names.{is_before}
 use Rattle.mapdb_facts.specs.State.{State}
 use Rattle.mapdb_facts.specs.declared.names.RecordId.{RecordId}
 use Rattle.mapdb_facts.specs.declared.names.Space.{Space}
-use Rattle.mapdb_rights.specs.Changes.{PageChanges, cached_in, seen_in}
+use Rattle.mapdb_lists.specs.Changes.{PageChanges, cached_in, seen_in}
+use Rattle.mapdb_lists.specs.declared.changes.Change.{Change}
 use Rattle.mapdb_rights.specs.Live.{IsLive}
-use Rattle.mapdb_rights.specs.declared.index.changes.Change.{Change}
 use Rattle.mapdb_rights.specs.declared.index.first_records.First.{First}
 use Rattle.mapdb_rights.specs.declared.index.first_records.First.TheVariants.{Alike, Mixed, Nothing}
 

@@ -7,11 +7,13 @@ use Rattle.mapdb_facts.specs.WellFormed.{IsFormedRecord}
 use Rattle.mapdb_facts.specs.declared.names.RecordId.{RecordId}
 use Rattle.mapdb_facts.specs.declared.operations.Op.{Op}
 use Rattle.mapdb_facts.specs.declared.operations.Record.{Record}
-use Rattle.mapdb_rights.specs.declared.index.changes.AllChanges.{AllChanges}
+use Rattle.mapdb_lists.specs.declared.changes.AllChanges.{AllChanges}
+use Rattle.mapdb_lists.specs.Changes.{cached_in}
+use Rattle.mapdb_lists.specs.Listing.{AllAligned, held_record}
+use Rattle.mapdb_lists.specs.declared.places.Places.{Places}
 use Rattle.mapdb_rights.specs.Caching.{AreRights}
-use Rattle.mapdb_rights.specs.Changes.{AreFrames, cached_in}
-use Rattle.mapdb_rights.specs.Listing.{AllAligned, AreOfHeld, HasPlaces, held_record}
-use Rattle.mapdb_rights.specs.declared.index.places.Places.{Places}
+use Rattle.mapdb_rights.specs.CachedFrames.{AreFrames}
+use Rattle.mapdb_rights.specs.HeldPlaces.{AreOfHeld, HasPlaces}
 
 -- each record that is held is listed and no other, and what is listed is aligned; each record that
 -- is held stands under its own name and is well-formed; under each name the same is kept beside

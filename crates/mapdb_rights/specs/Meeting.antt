@@ -8,8 +8,8 @@ use Rattle.mapdb_facts.specs.Names.{same_id, same_space}
 use Rattle.mapdb_facts.specs.declared.names.RecordId.{RecordId}
 use Rattle.mapdb_facts.specs.declared.names.Space.{Space}
 use Rattle.mapdb_facts.specs.declared.operations.Record.{Record}
-use Rattle.mapdb_rights.specs.declared.index.places.Owner.{Owner}
-use Rattle.mapdb_rights.specs.declared.index.places.Owner.TheVariants as owners
+use Rattle.mapdb_lists.specs.declared.places.Owner.{Owner}
+use Rattle.mapdb_lists.specs.declared.places.Owner.TheVariants as owners
 
 -- the place of the parent's space that a record's pages come from
 abbrev pub source_place : Record → Place

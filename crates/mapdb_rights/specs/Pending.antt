@@ -4,10 +4,11 @@ use Rattle.mapdb_fpage.specs.Bounds.{page_limit}
 use Rattle.mapdb_facts.specs.Names.{number_limit}
 use Rattle.mapdb_facts.specs.State.{State}
 use Rattle.mapdb_facts.specs.declared.names.RecordId.{RecordId}
+use Rattle.mapdb_lists.specs.Changes.{Cached, covers}
+use Rattle.mapdb_lists.specs.declared.places.Places.{Places}
+use Rattle.mapdb_lists.specs.Listing.{listed_len}
 use Rattle.mapdb_rights.specs.declared.index.stale.Stale.{Stale}
-use Rattle.mapdb_rights.specs.Caching.{Cached, IsSettled, covers}
-use Rattle.mapdb_rights.specs.declared.index.places.Places.{Places}
-use Rattle.mapdb_rights.specs.Listing.{listed_len}
+use Rattle.mapdb_rights.specs.Caching.{IsSettled}
 
 -- the page of the name is among those that are stale
 abbrev pub IsPending : List Stale → RecordId → ℕ → Type 0

@@ -4,13 +4,13 @@ use Rattle.mapdb_fpage.specs.Bounds.{page_limit}
 use Rattle.mapdb_fpage.specs.RightSets.{is_empty}
 use Rattle.mapdb_facts.specs.State.{State}
 use Rattle.mapdb_facts.specs.declared.names.RecordId.{RecordId}
-use Rattle.mapdb_rights.specs.declared.index.changes.Change.{Change}
-use Rattle.mapdb_rights.specs.declared.index.changes.Stretch.{Stretch}
+use Rattle.mapdb_lists.specs.declared.changes.Change.{Change}
+use Rattle.mapdb_lists.specs.declared.changes.Stretch.{Stretch}
+use Rattle.mapdb_lists.specs.Changes.{PageChanges, cached_in, change_at, seen_in}
+use Rattle.mapdb_lists.specs.OwnChanges.{IsNoneUntil}
 use Rattle.mapdb_rights.specs.declared.index.stepping.Step.{Step}
 use Rattle.mapdb_rights.specs.Caching.{rights_from}
-use Rattle.mapdb_rights.specs.Changes.{AreFrames, HasFrame, PageChanges, cached_in, change_at}
-use Rattle.mapdb_rights.specs.Changes.{seen_in}
-use Rattle.mapdb_rights.specs.OwnChanges.{IsNoneUntil}
+use Rattle.mapdb_rights.specs.CachedFrames.{AreFrames, HasFrame}
 
 -- From the page up to the end these rights follow from what is cached of the record's parent, and
 -- with them this distance of the frames.

@@ -28,8 +28,8 @@ use Rattle.mapdb_facts.specs.State.{State}
 use Rattle.mapdb_facts.specs.declared.holding.Facts.{Facts}
 use Rattle.mapdb_facts.specs.declared.names.RecordId.{RecordId}
 use Rattle.mapdb_facts.specs.declared.operations.Record.{Record}
+use Rattle.mapdb_lists.proofs.Lists.ListedOrder.{id_total}
 use Rattle.mapdb_rights.specs.Meeting.{is_named, record_if}
-use Rattle.mapdb_rights.proofs.Lists.ListedOrder.{id_total}
 use Rattle.mapdb_rights.proofs.Lists.Passing.{among_filter, ascending_filter, filter_among}
 use Rattle.mapdb_rights.proofs.Places.PlaceNames.{before_of}
 

@@ -11,11 +11,11 @@ use Rattle.mapdb_facts.specs.Names.{is_before}
 use Rattle.mapdb_facts.specs.State.{State}
 use Rattle.mapdb_facts.specs.declared.names.RecordId.{RecordId}
 use Rattle.mapdb_facts.specs.declared.names.Space.{Space}
+use Rattle.mapdb_lists.specs.Changes.{PageChanges, seen_in}
+use Rattle.mapdb_lists.specs.declared.changes.Change.{Change}
 use Rattle.mapdb_rights.specs.Among.{is_shown}
-use Rattle.mapdb_rights.specs.Changes.{PageChanges, seen_in}
 use Rattle.mapdb_rights.specs.First.{AreAsFar, IsBehindFirst, IsFirstFound, both_of, earlier_of, first_where, first_with, rights_joined}
 use Rattle.mapdb_rights.specs.Live.{IsLive}
-use Rattle.mapdb_rights.specs.declared.index.changes.Change.{Change}
 use Rattle.mapdb_rights.specs.declared.index.first_records.First.{First}
 use Rattle.mapdb_rights.specs.declared.index.first_records.First.TheVariants.{Alike, Mixed, Nothing}
 

@@ -6,19 +6,19 @@ use Rattle.mapdb_fpage.specs.Bounds.{page_limit}
 use Rattle.mapdb_facts.specs.Names.{root}
 use Rattle.mapdb_facts.specs.State.{State}
 use Rattle.mapdb_facts.specs.declared.names.Space.{Space}
+use Rattle.mapdb_lists.specs.Changes.{PageChanges, seen_in}
+use Rattle.mapdb_lists.specs.Listing.{owner_places}
+use Rattle.mapdb_lists.specs.OwnPlaces.{IsSweptOn, IsSweptTo, ahead, own_list}
+use Rattle.mapdb_lists.specs.declared.own_places.NextPlace.{NextPlace}
+use Rattle.mapdb_lists.specs.declared.own_places.OwnPlaces.{OwnPlaces}
+use Rattle.mapdb_lists.specs.declared.own_places.Sweep.{Sweep}
+use Rattle.mapdb_lists.specs.declared.places.Owner.TheVariants as owners
+use Rattle.mapdb_lists.specs.declared.places.Places.{Places}
 use Rattle.mapdb_rights.specs.Among.{is_shown}
-use Rattle.mapdb_rights.specs.Changes.{PageChanges, seen_in}
 use Rattle.mapdb_rights.specs.First.{IsBehindFirst, IsFirstFound, IsFirstOfAll, first_where}
 use Rattle.mapdb_rights.specs.Following.{AreListed}
-use Rattle.mapdb_rights.specs.Listing.{owner_places}
 use Rattle.mapdb_rights.specs.Live.{IsLive}
-use Rattle.mapdb_rights.specs.OwnPlaces.{IsSweptOn, IsSweptTo, ahead, own_list}
 use Rattle.mapdb_rights.specs.declared.index.first_records.First.{First}
-use Rattle.mapdb_rights.specs.declared.index.own_places.NextPlace.{NextPlace}
-use Rattle.mapdb_rights.specs.declared.index.own_places.OwnPlaces.{OwnPlaces}
-use Rattle.mapdb_rights.specs.declared.index.own_places.Sweep.{Sweep}
-use Rattle.mapdb_rights.specs.declared.index.places.Owner.TheVariants as owners
-use Rattle.mapdb_rights.specs.declared.index.places.Places.{Places}
 use Rattle.mapdb_rights.proofs.Live.FirstRecords.{found_where, here_where, kept_where}
 use Rattle.mapdb_rights.proofs.Live.LiveOrders.{shown_live}
 use Rattle.mapdb_rights.proofs.Live.PassedPlaces.{HoldsPassed, none_ahead, passed_all, passed_on}

@@ -12,22 +12,22 @@ use Rattle.mapdb_facts.specs.Names.{is_first_space, root}
 use Rattle.mapdb_facts.specs.State.{State}
 use Rattle.mapdb_facts.specs.declared.names.RecordId.{RecordId}
 use Rattle.mapdb_facts.specs.declared.names.Space.{Space}
+use Rattle.mapdb_lists.specs.Changes.{PageChanges, cached_in, seen_in}
+use Rattle.mapdb_lists.specs.Listing.{owner_places}
+use Rattle.mapdb_lists.specs.OwnPlaces.{IsSweptOn, IsSweptTo, ahead, own_list, stands}
+use Rattle.mapdb_lists.specs.declared.changes.Change.{Change}
+use Rattle.mapdb_lists.specs.declared.own_places.NextPlace.{NextPlace}
+use Rattle.mapdb_lists.specs.declared.own_places.OwnPlace.{OwnPlace}
+use Rattle.mapdb_lists.specs.declared.own_places.OwnPlaces.{OwnPlaces}
+use Rattle.mapdb_lists.specs.declared.own_places.Sweep.{Sweep}
+use Rattle.mapdb_lists.specs.declared.places.Owner.TheVariants as owners
+use Rattle.mapdb_lists.specs.declared.places.Places.{Places}
 use Rattle.mapdb_rights.specs.Caching.{AreRights}
-use Rattle.mapdb_rights.specs.Changes.{PageChanges, cached_in, seen_in}
 use Rattle.mapdb_rights.specs.First.{AreAsFar, IsAllAsFar, IsJoined, joined_as_far}
 use Rattle.mapdb_rights.specs.Following.{AreListed}
-use Rattle.mapdb_rights.specs.Listing.{owner_places}
 use Rattle.mapdb_rights.specs.Live.{IsLive}
-use Rattle.mapdb_rights.specs.OwnPlaces.{IsSweptOn, IsSweptTo, ahead, own_list, stands}
 use Rattle.mapdb_rights.specs.PageRights.{is_record_into}
 use Rattle.mapdb_rights.specs.Right.{rights_at}
-use Rattle.mapdb_rights.specs.declared.index.changes.Change.{Change}
-use Rattle.mapdb_rights.specs.declared.index.own_places.NextPlace.{NextPlace}
-use Rattle.mapdb_rights.specs.declared.index.own_places.OwnPlace.{OwnPlace}
-use Rattle.mapdb_rights.specs.declared.index.own_places.OwnPlaces.{OwnPlaces}
-use Rattle.mapdb_rights.specs.declared.index.own_places.Sweep.{Sweep}
-use Rattle.mapdb_rights.specs.declared.index.places.Owner.TheVariants as owners
-use Rattle.mapdb_rights.specs.declared.index.places.Places.{Places}
 use Rattle.mapdb_rights.proofs.Live.FirstRecords.{in_left, in_right, of_either}
 use Rattle.mapdb_rights.proofs.Live.LiveOrders.{shown_live}
 use Rattle.mapdb_rights.proofs.Live.PassedPlaces.{HoldsPassed, none_ahead, passed_all, passed_on, place_into}

@@ -16,20 +16,21 @@ use Rattle.mapdb_facts.specs.WellFormed.{IsFormedRecord}
 use Rattle.mapdb_facts.specs.declared.names.RecordId.{RecordId}
 use Rattle.mapdb_facts.specs.declared.names.Space.{Space}
 use Rattle.mapdb_facts.specs.declared.operations.Record.{Record}
+use Rattle.mapdb_lists.specs.Listing.{IsAligned, IsLeastMeeting, IsNextMeeting, is_above, is_listed, listed_cmp, meets, own_place, listed_pages}
+use Rattle.mapdb_lists.specs.declared.places.Listed.{Listed}
+use Rattle.mapdb_lists.specs.declared.places.Owner.TheVariants as owners
+use Rattle.mapdb_lists.proofs.Lists.ListedOrder.{le_parts, less_from, lt_parts}
+use Rattle.mapdb_lists.proofs.PlaceLemmas.Meetings.{aligned_start, either_way, meets_below, same_pages, some_pages}
+use Rattle.mapdb_lists.specs.declared.places.Places.{Places}
 use Rattle.mapdb_rights.specs.Among.{IsLeastOf, IsLiveRoot, IsShown, IsShownAt, lesser, under}
 use Rattle.mapdb_rights.specs.Following.{AreListed}
-use Rattle.mapdb_rights.specs.Listing.{IsAligned, IsLeastMeeting, IsNextMeeting, is_above, is_listed, listed_cmp, meets, own_place, listed_pages, place_of}
+use Rattle.mapdb_rights.specs.HeldPlaces.{place_of}
 use Rattle.mapdb_rights.specs.Live.{IsLive, IsLiveFrom}
 use Rattle.mapdb_rights.specs.PageRights.{is_record_into}
 use Rattle.mapdb_rights.specs.Right.{rights_at}
-use Rattle.mapdb_rights.specs.declared.index.places.Listed.{Listed}
-use Rattle.mapdb_rights.specs.declared.index.places.Owner.TheVariants as owners
 use Rattle.mapdb_rights.proofs.Settling.Ended.{rights_in_place}
 use Rattle.mapdb_rights.proofs.Lists.LeastNames.{least_of_both}
-use Rattle.mapdb_rights.proofs.Lists.ListedOrder.{le_parts, less_from, lt_parts}
 use Rattle.mapdb_rights.proofs.Live.LiveRecords.{into_held, no_root}
-use Rattle.mapdb_rights.proofs.Places.Meetings.{aligned_start, either_way, meets_below, same_pages, some_pages}
-use Rattle.mapdb_rights.specs.declared.index.places.Places.{Places}
 
 -- ---- of one order one place holds a page
 

@@ -12,21 +12,21 @@ use Rattle.mapdb_facts.specs.Records.{IsAmong}
 use Rattle.mapdb_facts.specs.State.{State}
 use Rattle.mapdb_facts.specs.declared.names.RecordId.{RecordId}
 use Rattle.mapdb_facts.specs.declared.names.Space.{Space}
+use Rattle.mapdb_lists.specs.Listing.{owner_places}
+use Rattle.mapdb_lists.specs.OwnPlaces.{IsSweptOn, IsSweptTo, ahead, own_list, stands}
+use Rattle.mapdb_lists.specs.declared.own_places.NextPlace.{NextPlace}
+use Rattle.mapdb_lists.specs.declared.own_places.OwnPlace.{OwnPlace}
+use Rattle.mapdb_lists.specs.declared.own_places.OwnPlaces.{OwnPlaces}
+use Rattle.mapdb_lists.specs.declared.own_places.Sweep.{Sweep}
+use Rattle.mapdb_lists.specs.declared.places.Owner.TheVariants as owners
+use Rattle.mapdb_lists.specs.declared.places.Places.{Places}
 use Rattle.mapdb_rights.specs.Among.{is_shown}
 use Rattle.mapdb_rights.specs.Following.{AreListed}
 use Rattle.mapdb_rights.specs.Frame.{frame_at}
-use Rattle.mapdb_rights.specs.Listing.{owner_places}
 use Rattle.mapdb_rights.specs.Live.{IsLive}
-use Rattle.mapdb_rights.specs.OwnPlaces.{IsSweptOn, IsSweptTo, ahead, own_list, stands}
 use Rattle.mapdb_rights.specs.PagePairs.{ArePagePairs, AreShown, HasPairAmong, IsShownPair, with_shown}
 use Rattle.mapdb_rights.specs.PageRights.{is_record_into, pair_at, pair_with}
 use Rattle.mapdb_rights.specs.Right.{rights_at}
-use Rattle.mapdb_rights.specs.declared.index.own_places.NextPlace.{NextPlace}
-use Rattle.mapdb_rights.specs.declared.index.own_places.OwnPlace.{OwnPlace}
-use Rattle.mapdb_rights.specs.declared.index.own_places.OwnPlaces.{OwnPlaces}
-use Rattle.mapdb_rights.specs.declared.index.own_places.Sweep.{Sweep}
-use Rattle.mapdb_rights.specs.declared.index.places.Owner.TheVariants as owners
-use Rattle.mapdb_rights.specs.declared.index.places.Places.{Places}
 use Rattle.mapdb_rights.proofs.Live.LiveOrders.{shown_live}
 use Rattle.mapdb_rights.proofs.Live.PassedPlaces.{HoldsPassed, none_ahead, passed_all, passed_on, place_into}
 use Rattle.mapdb_rights.proofs.Live.ServedPages.{right_in}

@@ -9,22 +9,23 @@ use Rattle.mapdb_facts.specs.Names.{is_root, root}
 use Rattle.mapdb_facts.specs.State.{State}
 use Rattle.mapdb_facts.specs.declared.names.RecordId.{RecordId}
 use Rattle.mapdb_facts.specs.declared.names.Space.{Space}
+use Rattle.mapdb_lists.specs.Listing.{listed_for, own_place, owner_places}
+use Rattle.mapdb_lists.specs.OwnPlaces.{IsSweptOn, IsSweptTo, ahead, at_start, own_list, own_meets, stands}
+use Rattle.mapdb_lists.specs.declared.own_places.NextPlace.{NextPlace}
+use Rattle.mapdb_lists.specs.declared.own_places.OwnPlace.{OwnPlace}
+use Rattle.mapdb_lists.specs.declared.own_places.OwnPlaces.{OwnPlaces}
+use Rattle.mapdb_lists.specs.declared.own_places.Sweep.{Sweep}
+use Rattle.mapdb_lists.specs.declared.places.Owner.TheVariants as owners
+use Rattle.mapdb_lists.specs.declared.places.Places.{Places}
+use Rattle.mapdb_lists.proofs.PlaceLemmas.OwnSweeps.{start_ahead}
+use Rattle.mapdb_lists.proofs.PlaceLemmas.OwnersPlaces.{back, there}
 use Rattle.mapdb_rights.specs.Among.{is_shown}
 use Rattle.mapdb_rights.specs.Following.{AreListed}
-use Rattle.mapdb_rights.specs.Listing.{listed_for, own_place, place_of, owner_places}
+use Rattle.mapdb_rights.specs.HeldPlaces.{place_of}
 use Rattle.mapdb_rights.specs.Live.{IsLive}
-use Rattle.mapdb_rights.specs.OwnPlaces.{IsSweptOn, IsSweptTo, ahead, at_start, own_list, own_meets, stands}
 use Rattle.mapdb_rights.specs.PageRights.{is_record_into}
 use Rattle.mapdb_rights.specs.Right.{rights_at}
-use Rattle.mapdb_rights.specs.declared.index.own_places.NextPlace.{NextPlace}
-use Rattle.mapdb_rights.specs.declared.index.own_places.OwnPlace.{OwnPlace}
-use Rattle.mapdb_rights.specs.declared.index.own_places.OwnPlaces.{OwnPlaces}
-use Rattle.mapdb_rights.specs.declared.index.own_places.Sweep.{Sweep}
-use Rattle.mapdb_rights.specs.declared.index.places.Owner.TheVariants as owners
-use Rattle.mapdb_rights.specs.declared.index.places.Places.{Places}
 use Rattle.mapdb_rights.proofs.Live.LiveOrders.{Standing, standing}
-use Rattle.mapdb_rights.proofs.Places.OwnSweeps.{start_ahead}
-use Rattle.mapdb_rights.proofs.Places.OwnersPlaces.{back, there}
 use Rattle.mapdb_rights.proofs.Settling.Followed.{listed_into}
 
 -- the record of a place of the space is one into it

@@ -12,7 +12,9 @@ use Rattle.mapdb_facts.specs.Names.{is_before}
 use Rattle.mapdb_facts.specs.State.{State}
 use Rattle.mapdb_facts.specs.declared.names.RecordId.{RecordId}
 use Rattle.mapdb_facts.specs.declared.names.Space.{Space}
-use Rattle.mapdb_rights.specs.Changes.{HasFrame, seen_in}
+use Rattle.mapdb_lists.specs.Changes.{seen_in}
+use Rattle.mapdb_lists.specs.declared.changes.Change.{Change}
+use Rattle.mapdb_rights.specs.CachedFrames.{HasFrame}
 use Rattle.mapdb_rights.specs.First.{IsAllAsFar, IsFirstOfAll}
 use Rattle.mapdb_rights.specs.Frame.{frame_at}
 use Rattle.mapdb_rights.specs.Index.{KeepsUp, StandsFor}
@@ -20,7 +22,6 @@ use Rattle.mapdb_rights.specs.Live.{IsLive}
 use Rattle.mapdb_rights.specs.PageRights.{HasPair}
 use Rattle.mapdb_rights.specs.Right.{has_right, rights_at}
 use Rattle.mapdb_rights.specs.Served.{IsServed}
-use Rattle.mapdb_rights.specs.declared.index.changes.Change.{Change}
 use Rattle.mapdb_rights.specs.declared.index.first_records.First.TheVariants.{Alike, Mixed, Nothing}
 use Rattle.mapdb_rights.specs.declared.index.rights_index.RightsIndex.{RightsIndex}
 

@@ -8,10 +8,10 @@ use Rattle.mapdb_facts.specs.Names.{is_after, same_id}
 use Rattle.mapdb_facts.specs.State.{State}
 use Rattle.mapdb_facts.specs.declared.names.RecordId.{RecordId}
 use Rattle.mapdb_facts.specs.declared.names.Space.{Space}
+use Rattle.mapdb_lists.specs.declared.places.Listed.{Listed}
+use Rattle.mapdb_lists.specs.declared.places.Places.{Places}
 use Rattle.mapdb_rights.specs.Among.{IsLeastName, IsLeastOf, IsShown, IsShownAt, StandsAt, is_shown}
-use Rattle.mapdb_rights.specs.declared.index.places.Listed.{Listed}
 use Rattle.mapdb_rights.proofs.Live.LiveRecords.{after_both}
-use Rattle.mapdb_rights.specs.declared.index.places.Places.{Places}
 
 module _ (set : Places) (S : State) (space : Space) (page : ℕ) (place : Listed) (after : Option RecordId) where
   -- those that are sought come behind the name

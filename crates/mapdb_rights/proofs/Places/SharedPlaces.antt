@@ -18,14 +18,15 @@ use Rattle.mapdb_facts.specs.State.{State}
 use Rattle.mapdb_facts.specs.declared.holding.Facts.{Facts}
 use Rattle.mapdb_facts.specs.declared.names.RecordId.{RecordId}
 use Rattle.mapdb_facts.specs.declared.operations.Record as operations
+use Rattle.mapdb_lists.specs.Listing.{is_listed, meets}
+use Rattle.mapdb_lists.specs.declared.places.Listed.{Listed}
+use Rattle.mapdb_lists.specs.declared.places.Owner.{Owner}
+use Rattle.mapdb_lists.specs.declared.places.Owner.TheVariants.{Record, Space}
+use Rattle.mapdb_lists.specs.declared.places.Places.{Places}
 use Rattle.mapdb_rights.specs.Following.{AreListed}
-use Rattle.mapdb_rights.specs.Listing.{is_listed, meets, place_of, source_of}
+use Rattle.mapdb_rights.specs.HeldPlaces.{place_of, source_of}
 use Rattle.mapdb_rights.specs.Meeting.{is_named, record_if, shares_part, source_place}
-use Rattle.mapdb_rights.specs.declared.index.places.Listed.{Listed}
-use Rattle.mapdb_rights.specs.declared.index.places.Owner.{Owner}
-use Rattle.mapdb_rights.specs.declared.index.places.Owner.TheVariants.{Record, Space}
 use Rattle.mapdb_rights.proofs.Lists.NamedRecords.{among_keys, ascending_keys, looked_is_filtered}
-use Rattle.mapdb_rights.specs.declared.index.places.Places.{Places}
 
 -- places that share pages meet
 meet_meets : (a b : Place) → is_some (meet a b) ≡ true → nat_lt (max a.first_page b.first_page) (min (a.first_page + page_total a) (b.first_page + page_total b)) ≡ true

@@ -6,8 +6,9 @@ use Rattle.mapdb_fpage.proofs.Meets.{holds_range}
 use Rattle.mapdb_fpage.specs.Bounds.{page_limit}
 use Rattle.mapdb_fpage.specs.Place.{IsPlace, holds}
 use Rattle.mapdb_facts.specs.declared.operations.Record.{Record}
+use Rattle.mapdb_lists.specs.Listing.{meets, listed_pages}
 use Rattle.mapdb_rights.specs.Right.{source_page}
-use Rattle.mapdb_rights.specs.Listing.{meets, listed_pages, place_of, source_of}
+use Rattle.mapdb_rights.specs.HeldPlaces.{place_of, source_of}
 
 -- pages that share one meet
 shared : (a b first end page : ℕ) → a ≤ page → page < b → first ≤ page → page < end → nat_lt (max a first) (min b end) ≡ true

@@ -12,14 +12,15 @@ use Rattle.mapdb_facts.specs.Names.{is_root}
 use Rattle.mapdb_facts.specs.State.{State, join}
 use Rattle.mapdb_facts.specs.declared.names.RecordId.{RecordId}
 use Rattle.mapdb_facts.specs.declared.operations.Record.{Record}
-use Rattle.mapdb_rights.specs.declared.index.changes.Change.{Change}
-use Rattle.mapdb_rights.specs.Caching.{covers, rights_from}
-use Rattle.mapdb_rights.specs.Changes.{AreFrames, PageChanges, HasFrame, at_first, past_the_end, cached_in, change_at, changed, seen_in}
+use Rattle.mapdb_lists.specs.declared.changes.Change.{Change}
+use Rattle.mapdb_lists.specs.Changes.{covers, PageChanges, at_first, past_the_end, cached_in, change_at, changed, seen_in}
+use Rattle.mapdb_lists.proofs.ChangeLemmas.LastChanges.{changed-none}
+use Rattle.mapdb_rights.specs.Caching.{rights_from}
+use Rattle.mapdb_rights.specs.CachedFrames.{AreFrames, HasFrame}
 use Rattle.mapdb_rights.specs.PageRights.{pair_with}
 use Rattle.mapdb_rights.specs.Right.{reaches, source_page}
 use Rattle.mapdb_rights.proofs.Rights.Frames.{frames_stay}
 use Rattle.mapdb_rights.proofs.Rights.FromParents.{from_powerless}
-use Rattle.mapdb_rights.proofs.Changes.LastChanges.{changed-none}
 use Rattle.mapdb_rights.proofs.Settling.Settlement.{covered}
 use Rattle.mapdb_rights.proofs.Rights.Steps.{frame_at-root}
 use Rattle.mapdb_rights.proofs.Rights.Walk.{frame_at-up}

@@ -12,9 +12,10 @@ use Rattle.mapdb_facts.specs.Names.{is_root}
 use Rattle.mapdb_facts.specs.State.{State}
 use Rattle.mapdb_facts.specs.declared.names.RecordId.{RecordId}
 use Rattle.mapdb_facts.specs.declared.operations.Record.{Record}
+use Rattle.mapdb_lists.specs.Changes.{Cached}
 use Rattle.mapdb_rights.specs.Right.{allows, reaches, record_right, right_by, source_page}
 use Rattle.mapdb_rights.proofs.Rights.Walk.{same_rights as from_each_right}
-use Rattle.mapdb_rights.specs.Caching.{Cached, rights_from}
+use Rattle.mapdb_rights.specs.Caching.{rights_from}
 use Rattle.mapdb_rights.proofs.Rights.Settled.{tests}
 
 module _ (cached : Cached) (S : State) (id : RecordId) (page : ℕ) where

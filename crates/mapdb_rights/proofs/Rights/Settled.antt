@@ -14,10 +14,11 @@ use Rattle.mapdb_facts.specs.Names.{is_root}
 use Rattle.mapdb_facts.specs.State.{State}
 use Rattle.mapdb_facts.specs.declared.names.RecordId.{RecordId}
 use Rattle.mapdb_facts.specs.declared.operations.Record.{Record}
+use Rattle.mapdb_lists.specs.Changes.{Cached, covers}
 use Rattle.mapdb_rights.specs.Right.{allows, has_right, reaches, record_right, right_by, rights_at, source_page}
 use Rattle.mapdb_rights.proofs.Rights.Steps.{earlier, has_right-step}
 use Rattle.mapdb_rights.proofs.Rights.Walk.{same_rights as from_each_right}
-use Rattle.mapdb_rights.specs.Caching.{AreRights, Cached, HasOtherSource, IsSettled, SettledIsExact, SettlingStirsChildren, covers, rights_from}
+use Rattle.mapdb_rights.specs.Caching.{AreRights, HasOtherSource, IsSettled, SettledIsExact, SettlingStirsChildren, rights_from}
 
 pub includes_where : (f : Right → Bool) (right : Right) → includes (rights_where f) right ≡ f right
 includes_where f Read = refl

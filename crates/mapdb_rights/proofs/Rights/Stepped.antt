@@ -12,9 +12,10 @@ use Rattle.mapdb_facts.specs.State.{State}
 use Rattle.mapdb_facts.specs.WellFormed.{IsFormedRecord}
 use Rattle.mapdb_facts.specs.declared.names.RecordId.{RecordId}
 use Rattle.mapdb_facts.specs.declared.operations.Record.{Record}
-use Rattle.mapdb_rights.specs.declared.index.changes.Change.{Change}
+use Rattle.mapdb_lists.specs.declared.changes.Change.{Change}
+use Rattle.mapdb_lists.specs.Changes.{PageChanges, cached_in, past_the_end, seen_in}
 use Rattle.mapdb_rights.specs.Caching.{rights_from}
-use Rattle.mapdb_rights.specs.Changes.{AreFrames, HasFrame, PageChanges, cached_in, past_the_end, seen_in}
+use Rattle.mapdb_rights.specs.CachedFrames.{AreFrames, HasFrame}
 use Rattle.mapdb_rights.specs.Right.{reaches, source_page}
 use Rattle.mapdb_rights.specs.Stepping.{Follows, IsGiven}
 use Rattle.mapdb_rights.proofs.Rights.FramesFrom.{root_frame, up_frame, up_has}

@@ -10,11 +10,11 @@ use Rattle.mapdb_facts.specs.Names.{is_root, root}
 use Rattle.mapdb_facts.specs.State.{State, nothing}
 use Rattle.mapdb_facts.specs.declared.names.RecordId.{RecordId}
 use Rattle.mapdb_facts.specs.declared.operations.Record.{Record}
+use Rattle.mapdb_lists.specs.Changes.{at_first, past_the_end, cached_in, change_at, changed}
 use Rattle.mapdb_rights.proofs.Rights.Walk.{rights_at-none}
 use Rattle.mapdb_rights.specs.Right.{source_page}
 use Rattle.mapdb_rights.specs.declared.index.stale.Stale.{Stale}
 use Rattle.mapdb_rights.specs.Caching.{IsSettled}
-use Rattle.mapdb_rights.specs.Changes.{at_first, past_the_end, cached_in, change_at, changed}
 use Rattle.mapdb_rights.specs.Pending.{AreSettledBut, IsPending}
 use Rattle.mapdb_rights.proofs.Settling.Ended.{empty_stands}
 use Rattle.mapdb_rights.proofs.Rights.FromParents.{from_beyond, from_none, from_outside, from_powerless}

@@ -11,13 +11,13 @@ use Rattle.mapdb_facts.specs.State.{State, nothing}
 use Rattle.mapdb_facts.specs.WellFormed.{is_number}
 use Rattle.mapdb_facts.specs.declared.names.RecordId.{RecordId}
 use Rattle.mapdb_facts.specs.declared.operations.Record.{Record}
+use Rattle.mapdb_lists.specs.Changes.{at_first, past_the_end, cached_in, change_at, changed}
+use Rattle.mapdb_lists.proofs.ChangeLemmas.LastChanges.{changed-none}
 use Rattle.mapdb_rights.proofs.Rights.Backed.{lies_in-right}
 use Rattle.mapdb_rights.proofs.Rights.Walk.{rights_at-beyond, rights_at-none, rights_at-root}
 use Rattle.mapdb_rights.specs.PageRights.{lies_in_record}
 use Rattle.mapdb_rights.specs.Right.{has_right, rights_at}
 use Rattle.mapdb_rights.specs.Caching.{AreRights}
-use Rattle.mapdb_rights.specs.Changes.{at_first, past_the_end, cached_in, change_at, changed}
-use Rattle.mapdb_rights.proofs.Changes.LastChanges.{changed-none}
 
 pub some_right : (f : Right → Bool) → is_empty (rights_where f) ≡ false → (right : Right) × (f right ≡ true)
 some_right f some =

@@ -12,20 +12,22 @@ use Rattle.mapdb_facts.specs.declared.operations.Op.{Op}
 use Rattle.mapdb_facts.specs.declared.operations.Op.TheVariants.{Born, Closed, Cut}
 use Rattle.mapdb_facts.specs.declared.operations.Record.{Record}
 use Rattle.mapdb_facts.specs.declared.operations.Revocation.{Revocation}
-use Rattle.mapdb_rights.specs.declared.index.places.Listed.{Listed}
+use Rattle.mapdb_lists.specs.declared.places.Listed.{Listed}
+use Rattle.mapdb_lists.specs.Changes.{Cached, PageChanges}
+use Rattle.mapdb_lists.specs.Listing.{AllAligned, held_record, is_listed}
+use Rattle.mapdb_lists.specs.declared.places.Owner.TheVariants as owners
+use Rattle.mapdb_lists.proofs.Lists.ListedOrder.{owner_is}
+use Rattle.mapdb_lists.specs.declared.places.Places.{Places}
 use Rattle.mapdb_rights.specs.declared.index.stale.Stale.{Stale}
-use Rattle.mapdb_rights.specs.Caching.{AreRights, Cached, IsSettled, Stirs}
-use Rattle.mapdb_rights.specs.Changes.{AreFrames, PageChanges}
+use Rattle.mapdb_rights.specs.Caching.{AreRights, IsSettled, Stirs}
+use Rattle.mapdb_rights.specs.CachedFrames.{AreFrames}
 use Rattle.mapdb_rights.specs.Following.{AreListed}
-use Rattle.mapdb_rights.specs.Listing.{AllAligned, AreOfHeld, IsListed, held_record, is_listed, place_of, source_of}
+use Rattle.mapdb_rights.specs.HeldPlaces.{AreOfHeld, IsListed, place_of, source_of}
 use Rattle.mapdb_rights.specs.Pending.{AreSettledBut, IsPending}
 use Rattle.mapdb_rights.specs.PageRights.{is_record_into}
-use Rattle.mapdb_rights.specs.declared.index.places.Owner.TheVariants as owners
 use Rattle.std.proofs.lemmas.Bool.{false≢true}
 use Rattle.mapdb_rights.proofs.Rights.FramesFrom.{frames_later}
-use Rattle.mapdb_rights.proofs.Lists.ListedOrder.{owner_is}
 use Rattle.mapdb_rights.proofs.Settling.Stirring.{operations_stir}
-use Rattle.mapdb_rights.specs.declared.index.places.Places.{Places}
 
 pub left_by_op : (S before : State) (op : Op) (cached : Cached) (stack : List Stale) → S ≡ join before (said op) → AreRights before cached
     → ((id : RecordId) (page : ℕ) → Stirs before op id page → IsPending stack id page) → AreSettledBut S cached stack

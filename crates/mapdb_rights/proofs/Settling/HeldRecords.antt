@@ -12,8 +12,8 @@ use Rattle.mapdb_facts.specs.declared.names.RecordId.{RecordId}
 use Rattle.mapdb_facts.specs.declared.operations.Op.TheVariants.{Born}
 use Rattle.mapdb_facts.specs.declared.operations.Record.{Record}
 use Rattle.mapdb_facts.proofs.Lists.SameNames.{same_id_itself}
-use Rattle.mapdb_rights.specs.Listing.{held_record, held_with}
-use Rattle.mapdb_rights.specs.declared.index.places.Places.{Places}
+use Rattle.mapdb_lists.specs.Listing.{held_record, held_with}
+use Rattle.mapdb_lists.specs.declared.places.Places.{Places}
 use Rattle.mapdb_rights.proofs.Settling.Followed.{first_alone}
 
 -- what is found under a name in the state stands under it and is well-formed

@@ -4,8 +4,8 @@ use Rattle.std.proofs.Math.Nat.{pow-le-pow_right}
 use Rattle.std.specs.Prelude.{◌⊎◌}
 use Rattle.mapdb_facts.specs.Names.{number_limit}
 use Rattle.mapdb_facts.specs.declared.names.RecordId.{RecordId}
+use Rattle.mapdb_lists.specs.Changes.{covers}
 use Rattle.mapdb_rights.specs.declared.index.stale.Stale.{Stale}
-use Rattle.mapdb_rights.specs.Caching.{covers}
 use Rattle.mapdb_fpage.specs.Bounds.{page_limit}
 use Rattle.mapdb_rights.specs.Pending.{IsPending, share, weight, worth}
 

@@ -14,9 +14,10 @@ use Rattle.mapdb_facts.specs.Names.{number_limit, same_id}
 use Rattle.mapdb_facts.specs.State.{State}
 use Rattle.mapdb_facts.specs.declared.names.RecordId.{RecordId}
 use Rattle.mapdb_facts.specs.declared.operations.Record.{Record}
+use Rattle.mapdb_lists.specs.Changes.{Cached, covers}
 use Rattle.mapdb_rights.specs.Right.{reaches, source_page}
 use Rattle.mapdb_rights.specs.declared.index.stale.Stale.{Stale}
-use Rattle.mapdb_rights.specs.Caching.{Cached, IsSettled, IsTakenAnew, covers, rights_from}
+use Rattle.mapdb_rights.specs.Caching.{IsSettled, IsTakenAnew, rights_from}
 use Rattle.mapdb_rights.specs.Pending.{AreSettledBut, IsPending, share, weight, worth}
 use Rattle.mapdb_rights.proofs.Settling.Pendings.{pending_either, weight-last}
 use Rattle.mapdb_rights.proofs.Rights.Settled.{settling_stirs_children}

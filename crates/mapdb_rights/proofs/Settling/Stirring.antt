@@ -14,9 +14,10 @@ use Rattle.mapdb_facts.specs.declared.names.Space.{Space}
 use Rattle.mapdb_facts.specs.declared.operations.Op.TheVariants.{Born, Closed, Cut}
 use Rattle.mapdb_facts.specs.declared.operations.Record.{Record}
 use Rattle.mapdb_facts.specs.declared.operations.Revocation.{Revocation}
+use Rattle.mapdb_lists.specs.Changes.{Cached}
 use Rattle.mapdb_rights.specs.Right.{allows, reaches, record_right, right_by, rights_at, source_page}
 use Rattle.mapdb_rights.proofs.Rights.Walk.{same_rights as from_each_right}
-use Rattle.mapdb_rights.specs.Caching.{AreRights, Cached, IsSettled, OperationsStir, Stirs}
+use Rattle.mapdb_rights.specs.Caching.{AreRights, IsSettled, OperationsStir, Stirs}
 use Rattle.mapdb_rights.proofs.Rights.Settled.{exact_is_settled, tests}
 
 or_false : (b : Bool) → (b || false) ≡ b

@@ -14,19 +14,21 @@ use Rattle.mapdb_facts.specs.State.{State}
 use Rattle.mapdb_facts.specs.declared.names.RecordId.{RecordId}
 use Rattle.mapdb_facts.specs.declared.names.Space.{Space}
 use Rattle.mapdb_facts.specs.declared.operations.Record.{Record}
-use Rattle.mapdb_rights.specs.Caching.{AreRights, Cached}
+use Rattle.mapdb_lists.specs.Changes.{Cached}
+use Rattle.mapdb_lists.specs.Listing.{IsLeastMeeting, IsNextMeeting, is_above, is_listed, meets, listed_pages}
+use Rattle.mapdb_lists.specs.declared.places.Listed.{Listed}
+use Rattle.mapdb_lists.specs.declared.places.Owner.TheVariants as owners
+use Rattle.mapdb_lists.proofs.Lists.ListedOrder.{same_or_above}
+use Rattle.mapdb_lists.specs.declared.places.Places.{Places}
+use Rattle.mapdb_rights.specs.Caching.{AreRights}
 use Rattle.mapdb_rights.specs.Following.{AreListed}
-use Rattle.mapdb_rights.specs.Listing.{IsLeastMeeting, IsListed, IsNextMeeting, is_above, is_listed, meets, listed_pages, place_of}
+use Rattle.mapdb_rights.specs.HeldPlaces.{IsListed, place_of}
 use Rattle.mapdb_rights.specs.Live.{ShowUntil, ShowsOn}
 use Rattle.mapdb_rights.specs.PageRights.{is_record_into}
 use Rattle.mapdb_rights.specs.Right.{rights_at}
-use Rattle.mapdb_rights.specs.declared.index.places.Listed.{Listed}
-use Rattle.mapdb_rights.specs.declared.index.places.Owner.TheVariants as owners
 use Rattle.mapdb_rights.proofs.Rights.FramesOn.{shows_on}
-use Rattle.mapdb_rights.proofs.Lists.ListedOrder.{same_or_above}
 use Rattle.mapdb_rights.proofs.Live.LiveRecords.{into_held}
 use Rattle.mapdb_rights.proofs.Rights.Walk.{rights_at-outside}
-use Rattle.mapdb_rights.specs.declared.index.places.Places.{Places}
 
 -- what meets fewer pages meets more
 meets_more : (k : Listed) (page least end : ℕ) → least ≤ end → meets k page least ≡ true → meets k page end ≡ true

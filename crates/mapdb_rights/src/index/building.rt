@@ -3,17 +3,17 @@
 ghost use Rattle.std.specs.Prelude.{◌≡◌, [], None, OnOk};
 ghost use Rattle.mapdb_facts.specs.Facts.{state_of_facts};
 ghost use Rattle.mapdb_facts.specs.declared.names.RecordId.{RecordId};
-ghost use Rattle.mapdb_rights.specs.Listing.{AllAligned, AreOfHeld, held_record};
+ghost use Rattle.mapdb_lists.specs.Listing.{AllAligned, held_record};
+ghost use Rattle.mapdb_rights.specs.HeldPlaces.{AreOfHeld};
 ghost use Rattle.mapdb_rights.specs.Following.{Stands};
 
-use super::changes::AllChanges;
 use super::children::push_children;
 use super::listing::list_records;
-use super::places::Places;
 use super::settling::settle;
 use super::stale::Stale;
 use mapdb_facts::{Facts, RecordId};
 use mapdb_fpage::PAGE_LIMIT;
+use mapdb_lists::{AllChanges, Places};
 use std::alloc::{AllocError, Global};
 
 /// From no changes on all is settled, beginning with the root and what has its pages from there.

@@ -8,19 +8,18 @@ ghost use Rattle.mapdb_facts.specs.Names.{same_id, same_space};
 ghost use Rattle.mapdb_facts.specs.WellFormed.{IsFormedRecord};
 ghost use Rattle.mapdb_facts.specs.declared.names.RecordId.{RecordId};
 ghost use Rattle.mapdb_facts.specs.declared.operations.Record.{Record};
+ghost use Rattle.mapdb_lists.specs.Listing.{listed_len, own_place};
+ghost use Rattle.mapdb_lists.specs.OwnPlaces.{AreAligned, own_list, stands};
 ghost use Rattle.mapdb_rights.specs.Following.{AreListed};
-ghost use Rattle.mapdb_rights.specs.Listing.{IsListed, listed_len, own_place, place_of};
-ghost use Rattle.mapdb_rights.specs.Listing.{source_of};
-ghost use Rattle.mapdb_rights.specs.OwnPlaces.{AreAligned, own_list, stands};
+ghost use Rattle.mapdb_rights.specs.HeldPlaces.{IsListed, place_of, source_of};
 ghost use Rattle.mapdb_rights.specs.Pending.{IsPending, share, weight};
 ghost use Rattle.mapdb_rights.specs.Right.{source_page};
 
 use super::listing::record_under;
-use super::own_places::{OwnPlaces, Sweep};
-use super::places::{Owner, Places};
 use super::stale::Stale;
 use mapdb_facts::{Facts, Record, RecordId, Space};
 use mapdb_fpage::PAGE_LIMIT;
+use mapdb_lists::{OwnPlaces, Owner, Places, Sweep};
 use std::alloc::AllocError;
 
 /// The pages of the child whose source pages are among these join what is stale.

@@ -4,21 +4,19 @@
 ghost use Rattle.std.specs.Prelude.{◌≡◌, true};
 ghost use Rattle.mapdb_facts.specs.Facts.{state_of_facts};
 ghost use Rattle.mapdb_facts.specs.Names.{root};
+ghost use Rattle.mapdb_lists.specs.Changes.{seen_in};
+ghost use Rattle.mapdb_lists.specs.Listing.{owner_places};
+ghost use Rattle.mapdb_lists.specs.OwnPlaces.{own_list};
+ghost use Rattle.mapdb_lists.specs.declared.places.Owner.TheVariants as owners;
 ghost use Rattle.mapdb_rights.specs.Among.{is_shown};
-ghost use Rattle.mapdb_rights.specs.Changes.{seen_in};
-ghost use Rattle.mapdb_rights.specs.First.{IsBehindFirst, IsFirstFound, IsFirstOfAll};
-ghost use Rattle.mapdb_rights.specs.First.{both_of, earlier_of, first_where, first_with};
+ghost use Rattle.mapdb_rights.specs.First.{IsBehindFirst, IsFirstFound, IsFirstOfAll, both_of};
+ghost use Rattle.mapdb_rights.specs.First.{earlier_of, first_where, first_with};
 ghost use Rattle.mapdb_rights.specs.Following.{Stands};
-ghost use Rattle.mapdb_rights.specs.Listing.{owner_places};
 ghost use Rattle.mapdb_rights.specs.Live.{IsLive};
-ghost use Rattle.mapdb_rights.specs.OwnPlaces.{own_list};
 ghost use Rattle.mapdb_rights.specs.PageRights.{is_record_into};
-ghost use Rattle.mapdb_rights.specs.declared.index.places.Owner.TheVariants as owners;
 
-use super::changes::{AllChanges, Change, seen_at};
-use super::own_places::{OwnPlaces, Sweep};
-use super::places::{Owner, Places};
 use mapdb_facts::{Facts, RecordId, Space};
+use mapdb_lists::{AllChanges, Change, OwnPlaces, Owner, Places, Sweep, seen_at};
 
 /// The first of the records of a space that were found to have a right at a page.
 #[derive(Clone, Copy, Debug)]

@@ -7,13 +7,12 @@ ghost use Rattle.mapdb_facts.specs.WellFormed.{is_formed};
 ghost use Rattle.mapdb_facts.specs.declared.operations.Op.{Op};
 ghost use Rattle.mapdb_rights.specs.Following.{Stood, Stands};
 
-use super::changes::AllChanges;
 use super::children::push_space;
 use super::listing::list_held;
-use super::places::Places;
 use super::settling::settle;
 use super::stale::Stale;
 use mapdb_facts::{Facts, Record, Revocation, Space};
+use mapdb_lists::{AllChanges, Places};
 use std::alloc::{AllocError, Global};
 
 /// A record came: it takes its rights from its parent, and what waited for it follows.

@@ -4,19 +4,17 @@
 ghost use Rattle.std.specs.Prelude.{◌≡◌};
 ghost use Rattle.mapdb_facts.specs.Facts.{state_of_facts};
 ghost use Rattle.mapdb_facts.specs.Names.{root};
-ghost use Rattle.mapdb_rights.specs.Changes.{seen_in};
+ghost use Rattle.mapdb_lists.specs.Changes.{seen_in};
+ghost use Rattle.mapdb_lists.specs.Listing.{owner_places};
+ghost use Rattle.mapdb_lists.specs.OwnPlaces.{own_list};
+ghost use Rattle.mapdb_lists.specs.declared.places.Owner.TheVariants as owners;
 ghost use Rattle.mapdb_rights.specs.First.{AreAsFar, IsAllAsFar, IsJoined, joined_as_far};
 ghost use Rattle.mapdb_rights.specs.Following.{Stands};
-ghost use Rattle.mapdb_rights.specs.Listing.{owner_places};
 ghost use Rattle.mapdb_rights.specs.Live.{IsLive};
-ghost use Rattle.mapdb_rights.specs.OwnPlaces.{own_list};
-ghost use Rattle.mapdb_rights.specs.declared.index.places.Owner.TheVariants as owners;
 
-use super::changes::{AllChanges, seen_at};
-use super::own_places::{OwnPlaces, Sweep};
-use super::places::{Owner, Places};
 use mapdb_facts::{Facts, RecordId, Space};
 use mapdb_fpage::Rights;
+use mapdb_lists::{AllChanges, OwnPlaces, Owner, Places, Sweep, seen_at};
 
 /// Rights, with those of the record of this name at the page, where its frame is so far from it.
 fn with_record(known: Rights, changes: &AllChanges, page: u64, shift: u64, id: RecordId) -> Rights

@@ -8,14 +8,14 @@ ghost use Rattle.mapdb_facts.specs.Merging.{IsNamed};
 ghost use Rattle.mapdb_facts.specs.WellFormed.{IsFormedRecord};
 ghost use Rattle.mapdb_facts.specs.declared.names.RecordId.{RecordId};
 ghost use Rattle.mapdb_facts.specs.declared.operations.Record.{Record};
+ghost use Rattle.mapdb_lists.specs.Listing.{AllAligned, IsAligned, held_record, held_with};
+ghost use Rattle.mapdb_lists.specs.Listing.{is_listed};
+ghost use Rattle.mapdb_lists.specs.declared.places.Listed.{Listed};
 ghost use Rattle.mapdb_rights.specs.Following.{AreListed};
-ghost use Rattle.mapdb_rights.specs.Listing.{AllAligned, AreOfHeld, IsAligned, IsListed};
-ghost use Rattle.mapdb_rights.specs.Listing.{held_record, held_with, is_listed, place_of};
-ghost use Rattle.mapdb_rights.specs.Listing.{source_of};
-ghost use Rattle.mapdb_rights.specs.declared.index.places.Listed.{Listed};
+ghost use Rattle.mapdb_rights.specs.HeldPlaces.{AreOfHeld, IsListed, place_of, source_of};
 
-use super::places::{Listed, Owner, Places};
 use mapdb_facts::{Facts, Record, RecordId};
+use mapdb_lists::{Listed, Owner, Places};
 use std::alloc::AllocError;
 
 /// Lists one place more.

@@ -5,19 +5,18 @@ ghost use Rattle.mapdb_facts.specs.Facts.{records_of_facts, state_of_facts};
 ghost use Rattle.mapdb_facts.specs.Names.{is_after, is_first_space, root};
 ghost use Rattle.mapdb_fpage.specs.Bounds.{page_limit};
 ghost use Rattle.mapdb_fpage.specs.RightSets.{is_empty};
+ghost use Rattle.mapdb_lists.specs.Listing.{IsFirstInside};
+ghost use Rattle.mapdb_lists.specs.declared.places.Owner.TheVariants as owners;
 ghost use Rattle.mapdb_rights.specs.Among.{behind_name, IsLeastOf, IsLiveRoot, IsShown, IsShownAt};
 ghost use Rattle.mapdb_rights.specs.Among.{StandsAt, is_shown, lesser};
 ghost use Rattle.mapdb_rights.specs.Following.{Stands};
-ghost use Rattle.mapdb_rights.specs.Listing.{IsFirstInside};
 ghost use Rattle.mapdb_rights.specs.Live.{IsLive, IsLiveFrom, live_names};
 ghost use Rattle.mapdb_rights.specs.PageRights.{is_record_into};
 ghost use Rattle.mapdb_rights.specs.Right.{rights_at};
-ghost use Rattle.mapdb_rights.specs.declared.index.places.Owner.TheVariants as owners;
 
-use super::changes::{AllChanges, cached_at};
-use super::places::{Listed, Owner, Places};
 use mapdb_facts::{Facts, RecordId, Space};
 use mapdb_fpage::PAGE_LIMIT;
+use mapdb_lists::{AllChanges, Listed, Owner, Places, cached_at};
 use std::alloc::{AllocError, Global};
 
 /// The lesser of two names.

@@ -1,10 +1,10 @@
 //! The records whose places, or whose sources, share pages with a place.
 
-use super::places::Owner;
 use super::rights_index::RightsIndex;
 use super::sharing::all_sharing;
 use mapdb_facts::{Facts, Record, RecordId, Space};
 use mapdb_fpage::Fpage;
+use mapdb_lists::Owner;
 use std::alloc::AllocError;
 
 impl RightsIndex {

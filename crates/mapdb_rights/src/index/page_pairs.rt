@@ -3,19 +3,17 @@
 ghost use Rattle.std.specs.Prelude.{◌≡◌, IfOk, OnOk};
 ghost use Rattle.mapdb_facts.specs.Facts.{state_of_facts};
 ghost use Rattle.mapdb_facts.specs.Names.{root};
+ghost use Rattle.mapdb_lists.specs.Listing.{owner_places};
+ghost use Rattle.mapdb_lists.specs.OwnPlaces.{own_list};
+ghost use Rattle.mapdb_lists.specs.declared.places.Owner.TheVariants as owners;
 ghost use Rattle.mapdb_rights.specs.Following.{Stands};
-ghost use Rattle.mapdb_rights.specs.Listing.{owner_places};
 ghost use Rattle.mapdb_rights.specs.Live.{IsLive};
-ghost use Rattle.mapdb_rights.specs.OwnPlaces.{own_list};
 ghost use Rattle.mapdb_rights.specs.PagePairs.{ArePagePairs, AreShown, HasPairAmong, with_shown};
 ghost use Rattle.mapdb_rights.specs.PageRights.{pair_at};
-ghost use Rattle.mapdb_rights.specs.declared.index.places.Owner.TheVariants as owners;
 
-use super::changes::{AllChanges, seen_at};
-use super::own_places::{OwnPlaces, Sweep};
-use super::places::{Owner, Places};
 use mapdb_facts::{Facts, RecordId, Space};
 use mapdb_fpage::Rights;
+use mapdb_lists::{AllChanges, OwnPlaces, Owner, Places, Sweep, seen_at};
 use std::alloc::{AllocError, Global};
 
 /// What is cached of a record at a page: its frame with its rights, where it has any.

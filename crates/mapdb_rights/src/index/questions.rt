@@ -1,10 +1,10 @@
 //! What the index tells of a page of a space.
 
-use super::changes::unchanged_until;
 use super::live_names::{all_live, live_after};
 use super::rights_index::RightsIndex;
 use super::shown_runs::show_until;
 use mapdb_facts::{Facts, RecordId, Space};
+use mapdb_lists::unchanged_until;
 use std::alloc::AllocError;
 
 impl RightsIndex {

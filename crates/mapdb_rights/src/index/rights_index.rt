@@ -1,12 +1,11 @@
 //! Cached rights beside facts.
 
 use super::building::settle_all;
-use super::changes::{AllChanges, cached_at, seen_at};
 use super::following::{follow_cut, follow_end, follow_record};
-use super::places::Places;
 use super::runs::{RightsRun, runs_of};
 use mapdb_facts::{Facts, Op, RecordId};
 use mapdb_fpage::Rights;
+use mapdb_lists::{AllChanges, Places, cached_at, seen_at};
 use std::alloc::{AllocError, Global};
 
 /// The rights of records at pages, kept beside the facts that they follow from. Running out of

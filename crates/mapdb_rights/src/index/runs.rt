@@ -3,12 +3,12 @@
 ghost use Rattle.std.specs.Prelude.{◌≡◌, ◌≤◌, ◌<◌, ◌+◌, [], ℕ, false, IfNone, IfOk, IfSome};
 ghost use Rattle.mapdb_fpage.specs.RightSets.{is_empty};
 ghost use Rattle.mapdb_facts.specs.Adding.{same_rights};
-ghost use Rattle.mapdb_rights.specs.Changes.{cached_in};
+ghost use Rattle.mapdb_lists.specs.Changes.{cached_in};
 ghost use Rattle.mapdb_rights.specs.RightsRuns.{IsFirstRightsRun, runs_behind};
 
-use super::changes::{AllChanges, cached_at, unchanged_until};
 use mapdb_facts::RecordId;
 use mapdb_fpage::{PAGE_LIMIT, Rights};
+use mapdb_lists::{AllChanges, cached_at, unchanged_until};
 use std::alloc::{AllocError, Global};
 
 /// Pages of a record, one behind the other, over which it has the same rights, and not none.

@@ -1,25 +1,25 @@
 //! Cached rights follow from the parents' again, from what is stale down to what has its pages from
 //! there. Frames come with the rights.
 
-ghost use Rattle.std.specs.Prelude.{◌≡◌, ◌≤◌, ◌<◌, ◌+◌, ◌-◌, ◌*◌, ◌++◌, ◌∷◌, ◌⊎◌, [], ℕ};
-ghost use Rattle.std.specs.Prelude.{true, OnOk};
+ghost use Rattle.std.specs.Prelude.{◌≡◌, ◌≤◌, ◌<◌, ◌+◌, ◌-◌, ◌*◌, ◌++◌, ◌∷◌, ◌⊎◌, [], ℕ, true};
+ghost use Rattle.std.specs.Prelude.{OnOk};
 ghost use Rattle.mapdb_facts.specs.Facts.{state_of_facts};
 ghost use Rattle.mapdb_facts.specs.declared.names.RecordId.{RecordId};
-ghost use Rattle.mapdb_rights.specs.Caching.{AreRights, IsSettled, covers};
-ghost use Rattle.mapdb_rights.specs.Changes.{AreFrames, cached_in};
+ghost use Rattle.mapdb_lists.specs.Changes.{covers, cached_in};
+ghost use Rattle.mapdb_lists.specs.Listing.{listed_len};
+ghost use Rattle.mapdb_rights.specs.Caching.{AreRights, IsSettled};
+ghost use Rattle.mapdb_rights.specs.CachedFrames.{AreFrames};
 ghost use Rattle.mapdb_rights.specs.Following.{AreListed};
-ghost use Rattle.mapdb_rights.specs.Listing.{listed_len};
 ghost use Rattle.mapdb_rights.specs.Pending.{AreSettledBut, IsPending, base_of, share, weight};
 ghost use Rattle.mapdb_rights.specs.Pending.{worth};
 ghost use Rattle.mapdb_rights.specs.Stepping.{IsStep};
 
-use super::changes::{AllChanges, write};
 use super::children::push_children;
-use super::places::Places;
 use super::stale::Stale;
 use super::stepping::{Step, step_at};
 use mapdb_facts::Facts;
 use mapdb_fpage::PAGE_LIMIT;
+use mapdb_lists::{AllChanges, Places, write};
 use std::alloc::AllocError;
 
 /// Pages over which all is steady get what follows from the parent. Where the rights are others

@@ -7,18 +7,17 @@ ghost use Rattle.mapdb_facts.specs.Facts.{records_of_facts, state_of_facts};
 ghost use Rattle.mapdb_facts.specs.Kept.{id_cmp};
 ghost use Rattle.mapdb_facts.specs.WellFormed.{IsFormedRecord};
 ghost use Rattle.mapdb_facts.specs.declared.names.RecordId.{RecordId};
+ghost use Rattle.mapdb_lists.specs.Listing.{AllAligned, is_listed, meets};
+ghost use Rattle.mapdb_lists.specs.OwnPlaces.{AreAligned, own_list, own_meets, stands};
+ghost use Rattle.mapdb_lists.specs.declared.own_places.OwnPlace.{OwnPlace};
+ghost use Rattle.mapdb_lists.specs.declared.places.Listed.{Listed};
 ghost use Rattle.mapdb_rights.specs.Following.{AreListed};
-ghost use Rattle.mapdb_rights.specs.Listing.{AllAligned, is_listed, meets};
 ghost use Rattle.mapdb_rights.specs.Meeting.{is_named, record_if, shares_part};
-ghost use Rattle.mapdb_rights.specs.OwnPlaces.{AreAligned, own_list, own_meets, stands};
-ghost use Rattle.mapdb_rights.specs.declared.index.own_places.OwnPlace.{OwnPlace};
-ghost use Rattle.mapdb_rights.specs.declared.index.places.Listed.{Listed};
 
 use super::listing::record_under;
-use super::own_places::{OwnPlaces, Sweep};
-use super::places::{Owner, Places};
 use mapdb_facts::{Facts, Record, RecordId};
 use mapdb_fpage::Fpage;
+use mapdb_lists::{OwnPlaces, Owner, Places, Sweep};
 use std::alloc::{AllocError, Global};
 
 /// The names of all places that meet the pages from `first` on up to before `end`, as they come.

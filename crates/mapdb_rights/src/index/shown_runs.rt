@@ -3,15 +3,14 @@
 ghost use Rattle.std.specs.Prelude.{◌≡◌, ◌≤◌, ◌<◌, ℕ, true};
 ghost use Rattle.mapdb_facts.specs.Facts.{state_of_facts};
 ghost use Rattle.mapdb_facts.specs.Names.{is_first_space, root};
-ghost use Rattle.mapdb_rights.specs.Changes.{cached_in};
+ghost use Rattle.mapdb_lists.specs.Changes.{cached_in};
+ghost use Rattle.mapdb_lists.specs.Listing.{meets};
 ghost use Rattle.mapdb_rights.specs.Following.{Stands};
-ghost use Rattle.mapdb_rights.specs.Listing.{meets};
 ghost use Rattle.mapdb_rights.specs.Live.{ShowUntil};
 
-use super::changes::{AllChanges, unchanged_until};
-use super::places::{Listed, Owner, Places};
 use mapdb_facts::{Facts, RecordId, Space};
 use mapdb_fpage::PAGE_LIMIT;
+use mapdb_lists::{AllChanges, Listed, Owner, Places, unchanged_until};
 
 /// How far the root's rights go on, where it is of the space.
 fn root_until(changes: &AllChanges, space: Space, page: u64) -> u64

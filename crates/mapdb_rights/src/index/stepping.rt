@@ -6,16 +6,15 @@ ghost use Rattle.mapdb_facts.specs.Adding.{cut_at};
 ghost use Rattle.mapdb_facts.specs.Facts.{state_of_facts};
 ghost use Rattle.mapdb_facts.specs.Names.{is_root};
 ghost use Rattle.mapdb_facts.specs.WellFormed.{IsFormedRecord};
-ghost use Rattle.mapdb_rights.specs.Changes.{PageChanges};
+ghost use Rattle.mapdb_lists.specs.Changes.{PageChanges};
 ghost use Rattle.mapdb_rights.specs.Following.{AreListed};
 ghost use Rattle.mapdb_rights.specs.Stepping.{IsGiven, IsStep};
 
-use super::changes::{AllChanges, Change, Stretch, stretch_at};
 use super::listing::record_under;
-use super::places::Places;
 use crate::sources::source_of;
 use mapdb_facts::{Facts, Record, RecordId};
 use mapdb_fpage::{PAGE_LIMIT, Rights};
+use mapdb_lists::{AllChanges, Change, Places, Stretch, stretch_at};
 
 /// What is cached of a record at a page, what follows there from its parent, and how far both go
 /// on.

@@ -4,14 +4,15 @@ use Rattle.mapdb_facts.specs.Facts.{state_of_facts}
 use Rattle.mapdb_facts.specs.Names.{root}
 use Rattle.mapdb_facts.specs.State.{State}
 use Rattle.mapdb_facts.specs.declared.names.RecordId.{RecordId}
+use Rattle.mapdb_lists.specs.Changes.{cached_in}
+use Rattle.mapdb_lists.proofs.Lists.Results.{on_both}
 use Rattle.mapdb_rights.proofs.Rights.SourcePages.{source_below}
-use Rattle.mapdb_rights.specs.Changes.{AreFrames, cached_in}
+use Rattle.mapdb_rights.specs.CachedFrames.{AreFrames}
 use Rattle.mapdb_rights.specs.Pending.{AreSettledBut, IsPending}
 use Rattle.mapdb_rights.proofs.Settling.Built.{left_from_nothing}
 use Rattle.mapdb_rights.proofs.Rights.FramesFrom.{no_change_frames}
 use Rattle.mapdb_rights.proofs.Settling.Pendings.{pending_last}
 use Rattle.mapdb_rights.proofs.Settling.Settlement.{to_covers}
-use Rattle.mapdb_rights.proofs.Lists.Results.{on_both}
 use Rattle.mapdb_rights.proofs.index.building.settle_all.Goals as goal
 
 pub settle-requires-clause-settled : goal.settle-requires-clause-settled

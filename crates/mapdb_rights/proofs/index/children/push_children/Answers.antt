@@ -1,12 +1,13 @@
 use Rattle.std.proofs.Common.{◌≤◌, ◌+◌, [], ap, sym, arith, length, mul-le-mul_right}
 use Rattle.std.proofs.lemmas.Bool.{false≢true}
-use Rattle.mapdb_rights.specs.declared.index.places.Owner.TheVariants as owners
-use Rattle.mapdb_rights.specs.Listing.{listed_len, source_of}
-use Rattle.mapdb_rights.specs.OwnPlaces.{own_list}
+use Rattle.mapdb_lists.specs.declared.places.Owner.TheVariants as owners
+use Rattle.mapdb_lists.specs.Listing.{listed_len}
+use Rattle.mapdb_lists.specs.OwnPlaces.{own_list}
+use Rattle.mapdb_lists.proofs.Lists.Entries.{own_length}
+use Rattle.mapdb_lists.proofs.Lists.Results.{on_ok}
+use Rattle.mapdb_lists.proofs.PlaceLemmas.OwnersPlaces.{own_aligned, there}
+use Rattle.mapdb_rights.specs.HeldPlaces.{source_of}
 use Rattle.mapdb_rights.specs.Pending.{share}
-use Rattle.mapdb_rights.proofs.Lists.Entries.{own_length}
-use Rattle.mapdb_rights.proofs.Lists.Results.{on_ok}
-use Rattle.mapdb_rights.proofs.Places.OwnersPlaces.{own_aligned, there}
 use Rattle.mapdb_rights.proofs.index.children.push_children.Goals as goal
 
 pub push_sources-requires-clause-aligned : goal.push_sources-requires-clause-aligned

@@ -1,8 +1,8 @@
 use Rattle.std.proofs.Common.{◌≤◌, ◌+◌, ap, sym, ◌∙◌, arith}
 use Rattle.mapdb_facts.specs.Exact.{exact_id}
 use Rattle.mapdb_facts.specs.declared.names.RecordId.{RecordId}
+use Rattle.mapdb_lists.proofs.Lists.Results.{on_ok}
 use Rattle.mapdb_rights.proofs.Settling.Pendings.{share_later}
-use Rattle.mapdb_rights.proofs.Lists.Results.{on_ok}
 use Rattle.mapdb_rights.proofs.index.children.push_held.Goals as goal
 
 pub returns-in-Some-clause-weight : goal.returns-in-Some-clause-weight

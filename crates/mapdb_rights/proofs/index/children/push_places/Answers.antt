@@ -2,10 +2,11 @@ use Rattle.std.proofs.Common.{◌≡◌, ap, subst, ◌∙◌, inl, inr}
 use Rattle.mapdb_facts.specs.Facts.{state_of_facts}
 use Rattle.mapdb_facts.specs.State.{State}
 use Rattle.mapdb_facts.specs.declared.names.RecordId.{RecordId}
-use Rattle.mapdb_rights.specs.declared.index.own_places.OwnPlace.{OwnPlace}
-use Rattle.mapdb_rights.specs.Listing.{own_place, place_of}
+use Rattle.mapdb_lists.specs.declared.own_places.OwnPlace.{OwnPlace}
+use Rattle.mapdb_lists.specs.Listing.{own_place}
+use Rattle.mapdb_lists.proofs.PlaceLemmas.OwnSweeps.{start_ahead}
+use Rattle.mapdb_rights.specs.HeldPlaces.{place_of}
 use Rattle.mapdb_rights.specs.Pending.{IsPending}
-use Rattle.mapdb_rights.proofs.Places.OwnSweeps.{start_ahead}
 use Rattle.mapdb_rights.proofs.Places.Sweeps.{place_meets}
 use Rattle.mapdb_rights.proofs.index.children.push_places.Goals as goal
 

@@ -4,8 +4,9 @@ use Rattle.mapdb_fpage.specs.Place.{IsPlace, holds}
 use Rattle.mapdb_facts.specs.Facts.{state_of_facts}
 use Rattle.mapdb_facts.specs.Looking.{Holds}
 use Rattle.mapdb_facts.specs.declared.operations.Record.{Record}
-use Rattle.mapdb_rights.specs.Listing.{own_place, place_of}
-use Rattle.mapdb_rights.specs.OwnPlaces.{ahead, own_list, stands}
+use Rattle.mapdb_lists.specs.Listing.{own_place}
+use Rattle.mapdb_lists.specs.OwnPlaces.{ahead, own_list, stands}
+use Rattle.mapdb_rights.specs.HeldPlaces.{place_of}
 use Rattle.mapdb_rights.specs.Pending.{IsPending}
 use Rattle.mapdb_rights.proofs.index.children.push_places.Given as goal
 

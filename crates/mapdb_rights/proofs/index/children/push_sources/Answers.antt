@@ -4,11 +4,12 @@ use Rattle.mapdb_facts.specs.Names.{same_id}
 use Rattle.mapdb_facts.specs.State.{State}
 use Rattle.mapdb_facts.specs.declared.names.RecordId.{RecordId}
 use Rattle.mapdb_facts.proofs.Lists.SameNames.{same_id_itself}
-use Rattle.mapdb_rights.specs.declared.index.own_places.OwnPlace.{OwnPlace}
-use Rattle.mapdb_rights.specs.Listing.{own_place, source_of}
-use Rattle.mapdb_rights.specs.OwnPlaces.{ahead, own_list}
+use Rattle.mapdb_lists.specs.declared.own_places.OwnPlace.{OwnPlace}
+use Rattle.mapdb_lists.specs.Listing.{own_place}
+use Rattle.mapdb_lists.specs.OwnPlaces.{ahead, own_list}
+use Rattle.mapdb_lists.proofs.PlaceLemmas.OwnSweeps.{start_ahead, start_length}
+use Rattle.mapdb_rights.specs.HeldPlaces.{source_of}
 use Rattle.mapdb_rights.specs.Pending.{IsPending, share, weight}
-use Rattle.mapdb_rights.proofs.Places.OwnSweeps.{start_ahead, start_length}
 use Rattle.mapdb_rights.proofs.Places.Sweeps.{counted_first, counted_on, source_meets}
 use Rattle.mapdb_rights.proofs.index.children.push_sources.Goals as goal
 

@@ -5,9 +5,10 @@ use Rattle.mapdb_facts.specs.Facts.{state_of_facts}
 use Rattle.mapdb_facts.specs.Looking.{Holds}
 use Rattle.mapdb_facts.specs.declared.names.RecordId.{RecordId}
 use Rattle.mapdb_facts.specs.declared.operations.Record.{Record}
+use Rattle.mapdb_lists.specs.Listing.{own_place}
+use Rattle.mapdb_lists.specs.OwnPlaces.{ahead, own_list, stands}
 use Rattle.mapdb_rights.specs.Right.{source_page}
-use Rattle.mapdb_rights.specs.Listing.{own_place, source_of}
-use Rattle.mapdb_rights.specs.OwnPlaces.{ahead, own_list, stands}
+use Rattle.mapdb_rights.specs.HeldPlaces.{source_of}
 use Rattle.mapdb_rights.specs.Pending.{IsPending, share, weight}
 use Rattle.mapdb_rights.proofs.index.children.push_sources.Given as goal
 

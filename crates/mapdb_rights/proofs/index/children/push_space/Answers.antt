@@ -1,11 +1,11 @@
 use Rattle.std.proofs.Common.{[], ap, sym}
 use Rattle.std.proofs.lemmas.Bool.{false≢true}
 use Rattle.mapdb_facts.specs.Exact.{exact_space}
-use Rattle.mapdb_rights.specs.declared.index.places.Owner.TheVariants as owners
-use Rattle.mapdb_rights.specs.Listing.{place_of}
-use Rattle.mapdb_rights.specs.OwnPlaces.{own_list}
-use Rattle.mapdb_rights.proofs.Lists.Results.{on_ok}
-use Rattle.mapdb_rights.proofs.Places.OwnersPlaces.{own_aligned, there}
+use Rattle.mapdb_lists.specs.declared.places.Owner.TheVariants as owners
+use Rattle.mapdb_lists.specs.OwnPlaces.{own_list}
+use Rattle.mapdb_lists.proofs.Lists.Results.{on_ok}
+use Rattle.mapdb_lists.proofs.PlaceLemmas.OwnersPlaces.{own_aligned, there}
+use Rattle.mapdb_rights.specs.HeldPlaces.{place_of}
 use Rattle.mapdb_rights.proofs.index.children.push_space.Goals as goal
 
 pub push_places-requires-clause-aligned : goal.push_places-requires-clause-aligned

@@ -1,12 +1,12 @@
 use Rattle.std.proofs.Common.{◌<◌, sym, subst, arith}
 use Rattle.mapdb_fpage.specs.Bounds.{page_limit}
 use Rattle.mapdb_facts.specs.Facts.{state_of_facts}
-use Rattle.mapdb_rights.specs.OwnPlaces.{own_list}
+use Rattle.mapdb_lists.specs.OwnPlaces.{own_list}
+use Rattle.mapdb_lists.specs.declared.places.Owner.TheVariants as owners
+use Rattle.mapdb_lists.proofs.PlaceLemmas.OwnersPlaces.{own_aligned}
 use Rattle.mapdb_rights.specs.declared.index.first_records.First.{First}
-use Rattle.mapdb_rights.specs.declared.index.places.Owner.TheVariants as owners
 use Rattle.mapdb_rights.proofs.Live.FirstWalks.{FirstPassed, first_all, first_on}
 use Rattle.mapdb_rights.proofs.Live.PassedPlaces.{none_passed, place_into}
-use Rattle.mapdb_rights.proofs.Places.OwnersPlaces.{own_aligned}
 use Rattle.mapdb_rights.proofs.index.first_records.first_among.Goals as goal
 
 pub next_place-requires : goal.next_place-requires

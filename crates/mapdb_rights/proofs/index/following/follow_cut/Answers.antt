@@ -5,10 +5,10 @@ use Rattle.mapdb_fpage.specs.Place.{holds}
 use Rattle.mapdb_facts.specs.Facts.{state_of_facts}
 use Rattle.mapdb_facts.specs.Names.{same_id}
 use Rattle.mapdb_facts.specs.declared.operations.Op.TheVariants.{Cut}
-use Rattle.mapdb_rights.specs.Changes.{cached_in}
+use Rattle.mapdb_lists.specs.Changes.{cached_in}
+use Rattle.mapdb_lists.proofs.Lists.Results.{on_both}
 use Rattle.mapdb_rights.proofs.Settling.Followed.{frames_by_op, left_by_op, listed_by_cut}
 use Rattle.mapdb_rights.proofs.Settling.Pendings.{pending_last}
-use Rattle.mapdb_rights.proofs.Lists.Results.{on_both}
 use Rattle.mapdb_rights.proofs.index.following.follow_cut.Goals as goal
 
 pub settle-requires-clause-listed : goal.settle-requires-clause-listed

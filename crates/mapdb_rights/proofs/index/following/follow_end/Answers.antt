@@ -5,12 +5,12 @@ use Rattle.mapdb_facts.specs.State.{State}
 use Rattle.mapdb_facts.specs.declared.names.RecordId.{RecordId}
 use Rattle.mapdb_facts.specs.declared.operations.Op.TheVariants.{Closed}
 use Rattle.mapdb_facts.specs.declared.operations.Record.{Record}
-use Rattle.mapdb_rights.specs.Changes.{cached_in}
+use Rattle.mapdb_lists.specs.Changes.{cached_in}
+use Rattle.mapdb_lists.proofs.Lists.Results.{on_both}
 use Rattle.mapdb_rights.specs.Following.{AreListed}
 use Rattle.mapdb_rights.specs.Pending.{IsPending}
 use Rattle.mapdb_rights.proofs.Settling.Ended.{numbered_is_other, rights_in_place}
 use Rattle.mapdb_rights.proofs.Settling.Followed.{frames_by_op, first_alone, left_by_op, listed_by_end}
-use Rattle.mapdb_rights.proofs.Lists.Results.{on_both}
 use Rattle.mapdb_rights.proofs.index.following.follow_end.Goals as goal
 
 pub push_space-requires : goal.push_space-requires

@@ -6,11 +6,11 @@ use Rattle.mapdb_facts.specs.Facts.{state_of_facts}
 use Rattle.mapdb_facts.specs.Names.{same_id}
 use Rattle.mapdb_facts.specs.State.{said}
 use Rattle.mapdb_facts.specs.declared.operations.Op.TheVariants.{Born}
-use Rattle.mapdb_rights.specs.Changes.{cached_in}
+use Rattle.mapdb_lists.specs.Changes.{cached_in}
+use Rattle.mapdb_lists.proofs.Lists.Results.{on_both}
 use Rattle.mapdb_rights.proofs.Settling.Followed.{frames_by_op, left_by_op, listed_by_record, of_held_on}
 use Rattle.mapdb_rights.proofs.Settling.HeldRecords.{records_by_record}
 use Rattle.mapdb_rights.proofs.Settling.Pendings.{pending_last}
-use Rattle.mapdb_rights.proofs.Lists.Results.{on_both}
 use Rattle.mapdb_rights.proofs.index.following.follow_record.Goals as goal
 
 pub list_held-requires : goal.list_held-requires

@@ -2,11 +2,11 @@ use Rattle.std.proofs.Common.{◌<◌, sym, subst, arith}
 use Rattle.mapdb_fpage.specs.Bounds.{page_limit}
 use Rattle.mapdb_fpage.specs.declared.right_sets.Rights.{Rights}
 use Rattle.mapdb_facts.specs.Facts.{state_of_facts}
-use Rattle.mapdb_rights.specs.OwnPlaces.{own_list}
-use Rattle.mapdb_rights.specs.declared.index.places.Owner.TheVariants as owners
+use Rattle.mapdb_lists.specs.OwnPlaces.{own_list}
+use Rattle.mapdb_lists.specs.declared.places.Owner.TheVariants as owners
+use Rattle.mapdb_lists.proofs.PlaceLemmas.OwnersPlaces.{own_aligned}
 use Rattle.mapdb_rights.proofs.Live.FrameRights.{RightsPassed, rights_all, rights_on}
 use Rattle.mapdb_rights.proofs.Live.PassedPlaces.{none_passed}
-use Rattle.mapdb_rights.proofs.Places.OwnersPlaces.{own_aligned}
 use Rattle.mapdb_rights.proofs.index.frame_rights.rights_among.Goals as goal
 
 pub next_place-requires : goal.next_place-requires

@@ -1,6 +1,6 @@
 use Rattle.std.proofs.Common.{length}
 use Rattle.mapdb_facts.specs.Facts.{state_of_facts}
-use Rattle.mapdb_rights.specs.OwnPlaces.{ahead}
+use Rattle.mapdb_lists.specs.OwnPlaces.{ahead}
 use Rattle.mapdb_rights.proofs.Live.FrameRights.{RightsPassed}
 use Rattle.mapdb_rights.proofs.index.frame_rights.rights_among.Given as goal
 

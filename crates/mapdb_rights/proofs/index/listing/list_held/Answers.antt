@@ -2,10 +2,11 @@ use Rattle.std.proofs.Common.{ap, sym, subst, ◌∙◌}
 use Rattle.mapdb_facts.specs.Facts.{state_of_facts}
 use Rattle.mapdb_facts.specs.Looking.{Holds}
 use Rattle.mapdb_facts.specs.declared.operations.Record.{Record}
-use Rattle.mapdb_rights.specs.Listing.{IsListed, held_with}
+use Rattle.mapdb_lists.specs.Listing.{held_with}
+use Rattle.mapdb_lists.proofs.Lists.Results.{on_ok}
+use Rattle.mapdb_rights.specs.HeldPlaces.{IsListed}
 use Rattle.mapdb_facts.proofs.Lists.SameNames.{some_same}
 use Rattle.mapdb_rights.proofs.Settling.Followed.{of_held_with}
-use Rattle.mapdb_rights.proofs.Lists.Results.{on_ok}
 use Rattle.mapdb_rights.proofs.index.listing.list_held.Goals as goal
 
 pub returns-in-Some-clause-there : goal.returns-in-Some-clause-there

@@ -2,9 +2,9 @@ use Rattle.std.proofs.Common.{◌≡◌, Bool, true, false, refl, sym, ap, subst
 use Rattle.std.specs.Prelude.{◌||◌}
 use Rattle.std.specs.BTreeMap.{is_at}
 use Rattle.std.proofs.lemmas.Bool.{cases_Bool}
-use Rattle.mapdb_rights.specs.declared.index.places.Listed.{Listed}
-use Rattle.mapdb_rights.specs.Listing.{IsAligned, is_listed, listed_cmp}
-use Rattle.mapdb_rights.proofs.Lists.ListedOrder.{exact_listed, listed_itself}
+use Rattle.mapdb_lists.specs.declared.places.Listed.{Listed}
+use Rattle.mapdb_lists.specs.Listing.{IsAligned, is_listed, listed_cmp}
+use Rattle.mapdb_lists.proofs.Lists.ListedOrder.{exact_listed, listed_itself}
 use Rattle.mapdb_rights.proofs.index.listing.list_place.Goals as goal
 
 pub returns-clause-aligned : goal.returns-clause-aligned

@@ -1,8 +1,9 @@
 use Rattle.std.proofs.Common.{◌≡◌, true, subst, sym, ◌∙◌, inl, inr}
-use Rattle.mapdb_rights.specs.Listing.{is_listed, source_of}
-use Rattle.mapdb_rights.specs.declared.index.places.Listed.{Listed}
-use Rattle.mapdb_rights.specs.declared.index.places.Owner.TheVariants.{Record, Space}
-use Rattle.mapdb_rights.proofs.Lists.Results.{on_any, on_both, on_ok}
+use Rattle.mapdb_lists.specs.Listing.{is_listed}
+use Rattle.mapdb_lists.specs.declared.places.Listed.{Listed}
+use Rattle.mapdb_lists.specs.declared.places.Owner.TheVariants.{Record, Space}
+use Rattle.mapdb_lists.proofs.Lists.Results.{on_any, on_both, on_ok}
+use Rattle.mapdb_rights.specs.HeldPlaces.{source_of}
 use Rattle.mapdb_rights.proofs.index.listing.list_record.Goals as goal
 
 pub list_place-requires-clause-aligned : goal.list_place-requires-clause-aligned

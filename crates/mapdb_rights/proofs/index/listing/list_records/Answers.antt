@@ -4,7 +4,8 @@ use Rattle.mapdb_facts.specs.Looking.{Holds}
 use Rattle.mapdb_facts.specs.Records.{IsAmong}
 use Rattle.mapdb_facts.specs.State.{State}
 use Rattle.mapdb_facts.specs.declared.operations.Record.{Record}
-use Rattle.mapdb_rights.specs.Listing.{IsListed, held_record}
+use Rattle.mapdb_lists.specs.Listing.{held_record}
+use Rattle.mapdb_rights.specs.HeldPlaces.{IsListed}
 use Rattle.mapdb_rights.proofs.Settling.Followed.{listed_on, of_held_with}
 use Rattle.mapdb_rights.proofs.Settling.HeldRecords.{held_here, held_of_more, held_still}
 use Rattle.mapdb_rights.proofs.index.listing.list_records.Goals as goal

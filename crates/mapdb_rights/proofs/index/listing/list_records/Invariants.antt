@@ -3,7 +3,8 @@ use Rattle.mapdb_facts.specs.Facts.{state_of_facts}
 use Rattle.mapdb_facts.specs.Looking.{Holds}
 use Rattle.mapdb_facts.specs.Records.{IsAmong}
 use Rattle.mapdb_facts.specs.declared.operations.Record.{Record}
-use Rattle.mapdb_rights.specs.Listing.{AllAligned, AreOfHeld, IsListed, held_record}
+use Rattle.mapdb_lists.specs.Listing.{AllAligned, held_record}
+use Rattle.mapdb_rights.specs.HeldPlaces.{AreOfHeld, IsListed}
 use Rattle.mapdb_rights.proofs.Settling.HeldRecords.{AreHeldOf}
 use Rattle.mapdb_rights.proofs.index.listing.list_records.Given as goal
 

@@ -3,7 +3,7 @@ use Rattle.std.specs.Prelude.{Option}
 use Rattle.mapdb_fpage.specs.Bounds.{page_limit}
 use Rattle.mapdb_facts.specs.Facts.{state_of_facts}
 use Rattle.mapdb_facts.specs.declared.names.RecordId.{RecordId}
-use Rattle.mapdb_rights.specs.declared.index.places.Listed.{Listed}
+use Rattle.mapdb_lists.specs.declared.places.Listed.{Listed}
 use Rattle.mapdb_rights.proofs.Live.LiveOrders.{Swept, swept_all, swept_next}
 use Rattle.mapdb_rights.proofs.index.live_names.live_after.Goals as goal
 

@@ -2,9 +2,9 @@ use Rattle.std.proofs.Common.{inl, inr, subst}
 use Rattle.std.specs.Prelude.{Option}
 use Rattle.std.proofs.lemmas.Bool.{cases_Bool}
 use Rattle.mapdb_facts.specs.Names.{is_after}
+use Rattle.mapdb_lists.specs.Listing.{IsFirstInside}
+use Rattle.mapdb_lists.specs.declared.places.Listed.{Listed}
 use Rattle.mapdb_rights.specs.Among.{behind_name}
-use Rattle.mapdb_rights.specs.Listing.{IsFirstInside}
-use Rattle.mapdb_rights.specs.declared.index.places.Listed.{Listed}
 use Rattle.mapdb_rights.proofs.Places.PlaceNames.{name_found, none_there, stands_there}
 use Rattle.mapdb_rights.proofs.index.live_names.name_after.Goals as goal
 

@@ -1,7 +1,7 @@
 use Rattle.std.proofs.Common.{sym, ◌∙◌}
 use Rattle.mapdb_facts.specs.Facts.{state_of_facts}
+use Rattle.mapdb_lists.proofs.Lists.Entries.{fewer_above}
 use Rattle.mapdb_rights.specs.Among.{under}
-use Rattle.mapdb_rights.proofs.Lists.Entries.{fewer_above}
 use Rattle.mapdb_rights.proofs.Settling.Followed.{listed_into}
 use Rattle.mapdb_rights.proofs.Places.PlaceNames.{entry_above, entry_of}
 use Rattle.mapdb_rights.proofs.Live.ShownNames.{further_next, none_shown, shown_here}

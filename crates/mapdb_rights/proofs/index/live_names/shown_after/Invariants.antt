@@ -1,5 +1,5 @@
 use Rattle.mapdb_facts.specs.Facts.{state_of_facts}
-use Rattle.mapdb_rights.specs.Listing.{left_above}
+use Rattle.mapdb_lists.specs.Listing.{left_above}
 use Rattle.mapdb_rights.proofs.Places.PlaceNames.{entry_of}
 use Rattle.mapdb_rights.proofs.Live.ShownNames.{Further}
 use Rattle.mapdb_rights.proofs.index.live_names.shown_after.Given as goal

@@ -1,9 +1,9 @@
 use Rattle.std.proofs.Common.{sym}
 use Rattle.mapdb_facts.specs.Facts.{state_of_facts}
 use Rattle.mapdb_facts.specs.Names.{root}
+use Rattle.mapdb_lists.proofs.Lists.Results.{if_both}
 use Rattle.mapdb_rights.specs.Live.{IsLive}
 use Rattle.mapdb_rights.specs.PagePairs.{ArePagePairs, AreShown, HasPairAmong}
-use Rattle.mapdb_rights.proofs.Lists.Results.{if_both}
 use Rattle.mapdb_rights.proofs.Live.PagePairs.{pairs_alone}
 use Rattle.mapdb_rights.proofs.index.page_pairs.page_pairs.Goals as goal
 

@@ -2,12 +2,12 @@ use Rattle.std.proofs.Common.{◌≡◌, ◌<◌, List, ap, sym, subst, ◌∙�
 use Rattle.std.specs.Prelude.{Option}
 use Rattle.mapdb_fpage.specs.Bounds.{page_limit}
 use Rattle.mapdb_facts.specs.Facts.{state_of_facts}
-use Rattle.mapdb_rights.specs.OwnPlaces.{own_list}
+use Rattle.mapdb_lists.specs.OwnPlaces.{own_list}
+use Rattle.mapdb_lists.specs.declared.places.Owner.TheVariants as owners
+use Rattle.mapdb_lists.proofs.PlaceLemmas.OwnersPlaces.{own_aligned}
 use Rattle.mapdb_rights.specs.PagePairs.{with_shown}
-use Rattle.mapdb_rights.specs.declared.index.places.Owner.TheVariants as owners
 use Rattle.mapdb_rights.proofs.Live.PagePairs.{Pair, PairsPassed, pairs_all, pairs_on}
 use Rattle.mapdb_rights.proofs.Live.PassedPlaces.{none_passed}
-use Rattle.mapdb_rights.proofs.Places.OwnersPlaces.{own_aligned}
 use Rattle.mapdb_rights.proofs.index.page_pairs.pairs_among.Goals as goal
 
 pub next_place-requires : goal.next_place-requires

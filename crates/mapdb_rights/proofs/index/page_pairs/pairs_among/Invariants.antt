@@ -1,6 +1,6 @@
 use Rattle.std.proofs.Common.{length}
 use Rattle.mapdb_facts.specs.Facts.{state_of_facts}
-use Rattle.mapdb_rights.specs.OwnPlaces.{ahead}
+use Rattle.mapdb_lists.specs.OwnPlaces.{ahead}
 use Rattle.mapdb_rights.proofs.Live.PagePairs.{PairsPassed}
 use Rattle.mapdb_rights.proofs.index.page_pairs.pairs_among.Given as goal
 

@@ -1,6 +1,6 @@
 use Rattle.std.proofs.Common.{ap, ◌∙◌}
 use Rattle.mapdb_fpage.specs.RightSets.{is_empty}
-use Rattle.mapdb_rights.specs.Changes.{cached_in}
+use Rattle.mapdb_lists.specs.Changes.{cached_in}
 use Rattle.mapdb_rights.proofs.Steady.PageRuns.{run_behind}
 use Rattle.mapdb_rights.proofs.index.runs.first_run.Goals as goal
 

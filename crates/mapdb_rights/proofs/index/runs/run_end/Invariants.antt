@@ -1,6 +1,6 @@
 use Rattle.std.proofs.Common.{◌≡◌, ◌-◌, ◌≤◌, ◌<◌, ℕ}
 use Rattle.mapdb_fpage.specs.Bounds.{page_limit}
-use Rattle.mapdb_rights.specs.Changes.{cached_in}
+use Rattle.mapdb_lists.specs.Changes.{cached_in}
 use Rattle.mapdb_rights.proofs.index.runs.run_end.Given as goal
 
 -- the pages that were passed have the same rights

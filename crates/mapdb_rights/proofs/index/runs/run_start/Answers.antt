@@ -1,6 +1,6 @@
 use Rattle.std.proofs.Common.{ap, sym, ◌∙◌, arith}
 use Rattle.mapdb_fpage.specs.RightSets.{is_empty}
-use Rattle.mapdb_rights.specs.Changes.{cached_in}
+use Rattle.mapdb_lists.specs.Changes.{cached_in}
 use Rattle.mapdb_rights.proofs.Steady.PageRuns.{none_behind, skip_behind}
 use Rattle.mapdb_rights.proofs.index.runs.run_start.Goals as goal
 

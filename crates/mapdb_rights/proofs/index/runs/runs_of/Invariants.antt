@@ -1,5 +1,5 @@
 use Rattle.std.proofs.Common.{◌≡◌, ◌++◌, length}
-use Rattle.mapdb_rights.specs.Changes.{cached_in}
+use Rattle.mapdb_lists.specs.Changes.{cached_in}
 use Rattle.mapdb_rights.specs.RightsRuns.{runs_behind}
 use Rattle.mapdb_rights.proofs.index.runs.runs_of.Given as goal
 

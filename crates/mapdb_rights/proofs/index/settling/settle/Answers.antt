@@ -1,7 +1,7 @@
 use Rattle.std.proofs.Common.{◌≡◌, length, arith, inl, inr}
 use Rattle.std.proofs.lemmas.Grind.{common_steps}
 use Rattle.mapdb_facts.specs.Facts.{state_of_facts}
-use Rattle.mapdb_rights.specs.Changes.{cached_in}
+use Rattle.mapdb_lists.specs.Changes.{cached_in}
 use Rattle.mapdb_rights.proofs.Settling.Pendings.{none_pending}
 use Rattle.mapdb_rights.proofs.Rights.Settled.{settled_is_exact}
 use Rattle.mapdb_rights.proofs.index.settling.settle.Goals as goal

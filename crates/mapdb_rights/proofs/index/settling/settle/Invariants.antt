@@ -1,5 +1,6 @@
 use Rattle.mapdb_facts.specs.Facts.{state_of_facts}
-use Rattle.mapdb_rights.specs.Changes.{AreFrames, cached_in}
+use Rattle.mapdb_lists.specs.Changes.{cached_in}
+use Rattle.mapdb_rights.specs.CachedFrames.{AreFrames}
 use Rattle.mapdb_rights.specs.Pending.{AreSettledBut, base_of, weight}
 use Rattle.mapdb_rights.proofs.index.settling.settle.Given as goal
 

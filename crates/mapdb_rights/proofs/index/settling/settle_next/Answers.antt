@@ -1,12 +1,12 @@
 use Rattle.std.proofs.Common.{arith}
 use Rattle.mapdb_facts.specs.Facts.{state_of_facts}
-use Rattle.mapdb_rights.specs.Changes.{cached_in}
+use Rattle.mapdb_lists.specs.Changes.{cached_in}
+use Rattle.mapdb_lists.proofs.Lists.Results.{on_both, on_ok}
+use Rattle.mapdb_lists.specs.Listing.{listed_len}
 use Rattle.mapdb_rights.specs.Pending.{base_of}
 use Rattle.mapdb_rights.proofs.Settling.Pendings.{weight-last}
 use Rattle.mapdb_rights.proofs.Settling.Settlement.{step_empty, step_settled, weight_falls}
-use Rattle.mapdb_rights.proofs.Lists.Results.{on_both, on_ok}
 use Rattle.mapdb_rights.proofs.index.settling.settle_next.Goals as goal
-use Rattle.mapdb_rights.specs.Listing.{listed_len}
 
 pub returns-then-stale-clause-settled : goal.returns-then-stale-clause-settled
 returns-then-stale-clause-settled c =

@@ -3,12 +3,11 @@ use Rattle.mapdb_facts.specs.Exact.{exact_rights}
 use Rattle.mapdb_facts.specs.Facts.{state_of_facts}
 use Rattle.mapdb_facts.specs.State.{State}
 use Rattle.mapdb_facts.specs.declared.names.RecordId.{RecordId}
-use Rattle.mapdb_rights.specs.Caching.{Cached}
-use Rattle.mapdb_rights.specs.Changes.{cached_in}
+use Rattle.mapdb_lists.specs.Changes.{Cached, cached_in}
+use Rattle.mapdb_lists.proofs.Lists.Results.{on_any, on_ok}
 use Rattle.mapdb_rights.specs.Pending.{IsPending}
 use Rattle.mapdb_rights.proofs.Rights.FramesFrom.{frames_written}
 use Rattle.mapdb_rights.proofs.Settling.Settlement.{settled_after, settled_already}
-use Rattle.mapdb_rights.proofs.Lists.Results.{on_any, on_ok}
 use Rattle.mapdb_rights.proofs.index.settling.settle_run.Goals as goal
 
 pub returns-then-eq-clause-settled : goal.returns-then-eq-clause-settled

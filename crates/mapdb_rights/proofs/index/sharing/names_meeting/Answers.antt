@@ -1,9 +1,9 @@
 use Rattle.std.proofs.Common.{[], sym}
 use Rattle.std.proofs.lemmas.Bool.{false≢true}
 use Rattle.std.proofs.lemmas.Result.{IfOk-weaker}
-use Rattle.mapdb_rights.specs.Listing.{own_place}
-use Rattle.mapdb_rights.specs.OwnPlaces.{own_list}
-use Rattle.mapdb_rights.proofs.Places.OwnersPlaces.{own_aligned, there}
+use Rattle.mapdb_lists.specs.Listing.{own_place}
+use Rattle.mapdb_lists.specs.OwnPlaces.{own_list}
+use Rattle.mapdb_lists.proofs.PlaceLemmas.OwnersPlaces.{own_aligned, there}
 use Rattle.mapdb_rights.proofs.index.sharing.names_meeting.Goals as goal
 
 pub names_of-requires : goal.names_of-requires

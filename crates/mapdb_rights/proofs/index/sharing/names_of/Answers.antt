@@ -1,5 +1,5 @@
 use Rattle.std.proofs.Common.{inl}
-use Rattle.mapdb_rights.proofs.Places.OwnSweeps.{start_ahead}
+use Rattle.mapdb_lists.proofs.PlaceLemmas.OwnSweeps.{start_ahead}
 use Rattle.mapdb_rights.proofs.index.sharing.names_of.Goals as goal
 
 pub places-init : goal.places-init

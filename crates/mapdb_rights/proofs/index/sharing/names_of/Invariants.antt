@@ -1,8 +1,8 @@
 use Rattle.std.proofs.Common.{◌≡◌, true, length}
 use Rattle.std.specs.Prelude.{◌⊎◌}
-use Rattle.mapdb_rights.specs.declared.index.own_places.OwnPlace.{OwnPlace}
+use Rattle.mapdb_lists.specs.declared.own_places.OwnPlace.{OwnPlace}
+use Rattle.mapdb_lists.specs.OwnPlaces.{ahead, own_list, own_meets, stands}
 use Rattle.mapdb_rights.specs.Meeting.{is_named}
-use Rattle.mapdb_rights.specs.OwnPlaces.{ahead, own_list, own_meets, stands}
 use Rattle.mapdb_rights.proofs.index.sharing.names_of.Given as goal
 
 -- each place that meets the pages comes later, or its name is there

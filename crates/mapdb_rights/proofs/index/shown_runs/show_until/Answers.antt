@@ -1,8 +1,8 @@
 use Rattle.std.proofs.Common.{◌≤◌, ◌<◌, arith}
 use Rattle.mapdb_fpage.specs.Bounds.{page_limit}
 use Rattle.mapdb_facts.specs.Facts.{state_of_facts}
-use Rattle.mapdb_rights.specs.Changes.{cached_in}
-use Rattle.mapdb_rights.proofs.Lists.Entries.{fewer_above}
+use Rattle.mapdb_lists.specs.Changes.{cached_in}
+use Rattle.mapdb_lists.proofs.Lists.Entries.{fewer_above}
 use Rattle.mapdb_rights.proofs.Steady.ShownRuns.{passed_all, passed_next, passed_none}
 use Rattle.mapdb_rights.proofs.index.shown_runs.show_until.Goals as goal
 

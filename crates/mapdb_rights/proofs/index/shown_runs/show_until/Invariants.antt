@@ -2,9 +2,9 @@ use Rattle.std.proofs.Common.{◌≡◌, ◌≤◌, ◌<◌, true}
 use Rattle.std.specs.Prelude.{IfSome}
 use Rattle.mapdb_fpage.specs.Bounds.{page_limit}
 use Rattle.mapdb_facts.specs.Names.{is_first_space, root}
-use Rattle.mapdb_rights.specs.Changes.{cached_in}
-use Rattle.mapdb_rights.specs.Listing.{left_above}
-use Rattle.mapdb_rights.specs.declared.index.places.Owner.TheVariants as owners
+use Rattle.mapdb_lists.specs.Changes.{cached_in}
+use Rattle.mapdb_lists.specs.Listing.{left_above}
+use Rattle.mapdb_lists.specs.declared.places.Owner.TheVariants as owners
 use Rattle.mapdb_rights.proofs.Steady.ShownRuns.{Passed, Stays}
 use Rattle.mapdb_rights.proofs.index.shown_runs.show_until.Given as goal
 

@@ -4,9 +4,9 @@ use Rattle.mapdb_fpage.specs.Bounds.{page_limit}
 use Rattle.mapdb_fpage.specs.RightSets.{without}
 use Rattle.mapdb_fpage.proofs.Meets.{holds_range}
 use Rattle.mapdb_facts.specs.State.{State}
-use Rattle.mapdb_rights.specs.Changes.{PageChanges}
+use Rattle.mapdb_lists.specs.Changes.{PageChanges}
+use Rattle.mapdb_lists.proofs.ChangeLemmas.Writing.{stretch_seen}
 use Rattle.mapdb_rights.specs.Right.{source_page}
-use Rattle.mapdb_rights.proofs.Changes.Writing.{stretch_seen}
 use Rattle.mapdb_rights.proofs.Rights.Stepped.{child_follows}
 use Rattle.mapdb_rights.proofs.index.stepping.child_given.Goals as goal
 

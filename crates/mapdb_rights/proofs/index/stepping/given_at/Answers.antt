@@ -5,8 +5,8 @@ use Rattle.mapdb_facts.specs.Facts.{state_of_facts}
 use Rattle.mapdb_facts.specs.Names.{is_root}
 use Rattle.mapdb_facts.specs.State.{State}
 use Rattle.mapdb_facts.specs.declared.names.RecordId.{RecordId}
-use Rattle.mapdb_rights.specs.declared.index.changes.Stretch.{Stretch}
-use Rattle.mapdb_rights.specs.Changes.{PageChanges, cached_in}
+use Rattle.mapdb_lists.specs.declared.changes.Stretch.{Stretch}
+use Rattle.mapdb_lists.specs.Changes.{PageChanges, cached_in}
 use Rattle.mapdb_rights.specs.Stepping.{IsGiven}
 use Rattle.mapdb_rights.proofs.Rights.FromParents.{from_ended, from_outside}
 use Rattle.mapdb_rights.proofs.Rights.Stepped.{none_given}

@@ -1,5 +1,5 @@
 use Rattle.std.proofs.Common.{arith}
-use Rattle.mapdb_rights.proofs.Changes.Writing.{stretch_seen}
+use Rattle.mapdb_lists.proofs.ChangeLemmas.Writing.{stretch_seen}
 use Rattle.mapdb_rights.proofs.index.stepping.step_at.Goals as goal
 
 pub returns : goal.returns

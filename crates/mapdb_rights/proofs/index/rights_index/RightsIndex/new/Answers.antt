@@ -3,10 +3,11 @@ use Rattle.std.specs.Prelude.{None}
 use Rattle.std.proofs.lemmas.Bool.{true≢false}
 use Rattle.mapdb_facts.specs.State.{nothing}
 use Rattle.mapdb_facts.specs.declared.operations.Record.{Record}
-use Rattle.mapdb_rights.specs.Changes.{AreFrames, cached_in}
+use Rattle.mapdb_lists.specs.Changes.{cached_in}
+use Rattle.mapdb_lists.proofs.Lists.Entries.{none_aligned}
+use Rattle.mapdb_rights.specs.CachedFrames.{AreFrames}
 use Rattle.mapdb_rights.proofs.Rights.FramesFrom.{no_change_frames}
 use Rattle.mapdb_rights.proofs.Settling.Ended.{empty_stands}
-use Rattle.mapdb_rights.proofs.Lists.Entries.{none_aligned}
 use Rattle.mapdb_rights.proofs.index.rights_index.RightsIndex.new.Goals as goal
 
 pub returns : goal.returns

@@ -1,6 +1,6 @@
 use Rattle.std.proofs.Common.{◌≡◌, ◌+◌, false, Some, ap, sym, ◌∙◌}
 use Rattle.mapdb_fpage.specs.RightSets.{is_empty}
-use Rattle.mapdb_rights.specs.Changes.{seen_in}
+use Rattle.mapdb_lists.specs.Changes.{seen_in}
 use Rattle.mapdb_rights.specs.Frame.{frame_at}
 use Rattle.mapdb_rights.specs.Right.{rights_at}
 use Rattle.mapdb_rights.proofs.Rights.FramesFrom.{pair_is}

@@ -1,0 +1,4 @@
+pub mod ChangeLemmas
+pub mod Lists
+pub mod NameLemmas
+pub mod PlaceLemmas

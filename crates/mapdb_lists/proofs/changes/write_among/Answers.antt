@@ -1,0 +1,39 @@
+use Rattle.std.proofs.Common.{◌<◌, arith, cond, length, refl, sym, ap, subst, ◌∙◌}
+use Rattle.std.specs.Prelude.{Some}
+use Rattle.std.specs.Map.{lookup}
+use Rattle.std.proofs.lemmas.Option.{slice_get_read}
+use Rattle.mapdb_facts.specs.Names.{same_id}
+use Rattle.mapdb_lists.specs.declared.changes.Change.{Change}
+use Rattle.mapdb_lists.specs.Changes.{IsRewritten}
+use Rattle.mapdb_lists.specs.OwnChanges.{own_change}
+use Rattle.mapdb_lists.proofs.ChangeLemmas.RecordChanges.{written_changed, written_new}
+use Rattle.mapdb_lists.proofs.Lists.Results.{on_ok}
+use Rattle.mapdb_lists.proofs.NameLemmas.NamedEntries.{found_at, found_nowhere, given_at, place_within}
+use Rattle.mapdb_lists.proofs.changes.write_among.Goals as goal
+
+pub index_mut-requires : goal.index_mut-requires
+index_mut-requires c = omega (arith, place_within c.own_changes.inside.names c.args.id c.in-Some.at (sym c.in-Some.ensures), c.own_changes.invariant, c.own_changes.inside.values.ok.0)
+
+pub returns-in-Some : goal.returns-in-Some
+returns-in-Some c =
+    let within : c.in-Some.at < length c.own_changes.inside.values.items = omega (arith, place_within c.own_changes.inside.names c.args.id c.in-Some.at (sym c.in-Some.ensures), c.own_changes.invariant) in
+    on_ok c.write.result
+    (λ given. written_changed c.args.own_changes.now.entries _ c.args.id c.args.first c.args.end c.args.was c.args.change c.index_mut.result.now c.write.new.self
+    (λ q. given_at c.own_changes.inside.names c.own_changes.inside.values.items c.args.id c.in-Some.at c.write.new.self (sym c.in-Some.ensures) within q
+    ∙ ap (λ table. cond (same_id c.args.id q) (Some c.write.new.self) (lookup (same_id q) table.entries)) c.own_changes.view_is)
+    (subst (λ (before : Change). IsRewritten (own_change c.index_mut.result.now) before c.args.first c.args.end c.args.was c.args.change (own_change c.write.new.self)) c.first_change-before.ensures given)
+    (sym (slice_get_read c.own_changes.inside.values.items _ c.in-Some.at c.index_mut.result.now refl within c.index_mut.ensures.value)
+    ∙ found_at c.own_changes.inside.names c.own_changes.inside.values.items c.args.id c.in-Some.at (sym c.in-Some.ensures) within
+    ∙ ap (λ table. lookup (same_id c.args.id) table.entries) c.own_changes.view_is))
+    c.write.ensures
+
+pub returns : goal.returns
+returns c =
+    on_ok c.insert.result
+    (λ given. written_new c.args.own_changes.now.entries c.insert.new.self.entries c.args.id c.args.first c.args.end c.args.was c.args.change c.new-own.result c.write-2.new.self
+    given
+    (subst (λ (before : Change). IsRewritten (own_change c.new-own.result) before c.args.first c.args.end c.args.was c.args.change (own_change c.write-2.new.self)) c.first_change-before.ensures c.in_ok-write.ensures)
+    c.new-own.ensures
+    (found_nowhere c.own_changes.inside.names c.own_changes.inside.values.items c.args.id (sym c.place.ensures ∙ c.in_default.is)
+    ∙ ap (λ table. lookup (same_id c.args.id) table.entries) c.own_changes.view_is))
+    c.insert.ensures.ok

@@ -1,0 +1,12 @@
+use Rattle.std.proofs.Common.{sym, subst, List}
+use Rattle.mapdb_lists.specs.declared.own_places.OwnPlace.{OwnPlace}
+use Rattle.mapdb_lists.specs.declared.own_places.OwnPlaces.{OwnPlaces}
+use Rattle.mapdb_lists.specs.OwnPlaces.{AreAligned, own_list}
+use Rattle.mapdb_lists.proofs.own_places.OwnPlaces.next_meeting.Goals as goal
+
+pub least_meeting-requires : goal.least_meeting-requires
+least_meeting-requires c =
+    subst (λ (places : List OwnPlace). AreAligned places) (sym c.as_slice.ensures) (subst (λ (own : OwnPlaces). AreAligned (own_list own)) c.in-Few.is c.requires)
+
+pub next_meeting-requires : goal.next_meeting-requires
+next_meeting-requires c = subst (λ (own : OwnPlaces). AreAligned (own_list own)) c.in-Many.is c.requires

@@ -1,0 +1,8 @@
+use Rattle.std.proofs.Common.{◌≡◌, take}
+use Rattle.mapdb_lists.specs.declared.own_places.OwnPlace.{OwnPlace}
+use Rattle.mapdb_lists.specs.OwnPlaces.{stands}
+use Rattle.mapdb_lists.proofs.own_places.many_of.Given as goal
+
+-- the places so far
+abbrev pub invariant-loop-place : goal.invariant-loop-place
+invariant-loop-place l = (k : OwnPlace) → stands l.many.places k ≡ stands (take l.place-index l.places) k

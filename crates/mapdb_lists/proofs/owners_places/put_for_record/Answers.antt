@@ -1,0 +1,47 @@
+use Rattle.std.proofs.Common.{◌≡◌, ◌<◌, arith, cond, length, refl, sym, ap, ◌∙◌}
+use Rattle.std.specs.Prelude.{◌||◌, List, Option, None, Some}
+use Rattle.std.specs.BTreeMap.{is_at}
+use Rattle.std.specs.Map.{lookup}
+use Rattle.std.proofs.lemmas.Option.{slice_get_read}
+use Rattle.mapdb_facts.specs.Names.{same_id}
+use Rattle.mapdb_lists.specs.declared.own_places.OwnPlace.{OwnPlace}
+use Rattle.mapdb_lists.specs.declared.own_places.OwnPlaces.{OwnPlaces}
+use Rattle.mapdb_lists.specs.Listing.{places_in}
+use Rattle.mapdb_lists.specs.OwnPlaces.{place_cmp, stands}
+use Rattle.mapdb_lists.proofs.Lists.Results.{on_ok}
+use Rattle.mapdb_lists.proofs.NameLemmas.NamedEntries.{found_at, found_nowhere, given_at, place_within}
+use Rattle.mapdb_lists.proofs.owners_places.put_for_record.Goals as goal
+
+pub index_mut-requires : goal.index_mut-requires
+index_mut-requires c = omega (arith, place_within c.records.inside.names c.args.id c.in-Some.at (sym c.in-Some.ensures), c.records.invariant, c.records.inside.values.ok.0)
+
+pub returns-in-Some : goal.returns-in-Some
+returns-in-Some c =
+    let within : c.in-Some.at < length c.records.inside.values.items = omega (arith, place_within c.records.inside.names c.args.id c.in-Some.at (sym c.in-Some.ensures), c.records.invariant) in
+    let found : Some c.index_mut.result.now ≡ lookup (same_id c.args.id) c.args.records.now.entries =
+    sym (slice_get_read c.records.inside.values.items _ c.in-Some.at c.index_mut.result.now refl within c.index_mut.ensures.value)
+    ∙ found_at c.records.inside.names c.records.inside.values.items c.args.id c.in-Some.at (sym c.in-Some.ensures) within
+    ∙ ap (λ table. lookup (same_id c.args.id) table.entries) c.records.view_is in
+    on_ok c.insert.result
+    (λ put. record {
+      own = c.insert.new.self;
+      given = λ q. given_at c.records.inside.names c.records.inside.values.items c.args.id c.in-Some.at c.insert.new.self (sym c.in-Some.ensures) within q
+          ∙ ap (λ table. cond (same_id c.args.id q) (Some c.insert.new.self) (lookup (same_id q) table.entries)) c.records.view_is;
+      put = λ k. put k ∙ ap (λ (o : Option OwnPlaces). is_at (place_cmp c.args.place) k || stands (places_in o) k) found;
+    })
+    c.insert.ensures
+
+pub returns : goal.returns
+returns c =
+    let found : None ≡ lookup (same_id c.args.id) c.args.records.now.entries =
+    found_nowhere c.records.inside.names c.records.inside.values.items c.args.id (sym c.place.ensures ∙ c.in_default.is)
+    ∙ ap (λ table. lookup (same_id c.args.id) table.entries) c.records.view_is in
+    on_ok c.insert-3.result
+    (λ given. record {
+      own = c.insert-2.new.self;
+      given = given;
+      put = λ k. c.in_ok-insert.ensures k
+          ∙ ap (λ (l : List OwnPlace). is_at (place_cmp c.args.place) k || stands l k) c.new-own.ensures
+          ∙ ap (λ (o : Option OwnPlaces). is_at (place_cmp c.args.place) k || stands (places_in o) k) found;
+    })
+    c.insert-3.ensures.ok

@@ -1,0 +1,25 @@
+use Rattle.std.proofs.Common.{[], ap, refl, sym, subst, ◌∙◌}
+use Rattle.std.specs.Prelude.{None, Option}
+use Rattle.std.specs.BTreeMap.Range.{is_from_start}
+use Rattle.std.specs.Option.{option_copied}
+use Rattle.std.specs.declared.ops.Bound.TheVariants.{Included}
+use Rattle.std.proofs.lemmas.Bool.{false≢true}
+use Rattle.mapdb_lists.specs.declared.own_places.OwnPlace.{OwnPlace}
+use Rattle.mapdb_lists.specs.declared.places.Listed.{Listed}
+use Rattle.mapdb_lists.specs.Listing.{IsFirstInside}
+use Rattle.mapdb_lists.specs.OwnPlaces.{IsFirstPlaceWhere, own_list, place_cmp}
+use Rattle.mapdb_lists.proofs.PlaceLemmas.OwnersPlaces.{first_from_own, places_absent, places_found}
+use Rattle.mapdb_lists.proofs.places.Places.first_from.Goals as goal
+
+pub returns-in-Some : goal.returns-in-Some
+returns-in-Some c =
+    let own = c.in-Some.own.now in
+    let places = places_found c.args.self.now.own.entries c.args.from.owner own (sym (ap option_copied c.in-Some.is) ∙ c.get.ensures) in
+    subst (λ (r : Option Listed). IsFirstInside c.args.self.now c.args.from.owner (Included c.args.from) r) (sym c.listed_for.ensures)
+    (first_from_own c.args.self.now c.args.from.owner (own_list own) places c.args.from refl c.first_from.result
+    (subst (λ (p : OwnPlace). IsFirstPlaceWhere (is_from_start place_cmp (Included p)) (own_list own) c.first_from.result) c.own_place.ensures c.first_from.ensures))
+
+pub returns-in-None : goal.returns-in-None
+returns-in-None c =
+    first_from_own c.args.self.now c.args.from.owner [] (places_absent c.args.self.now.own.entries c.args.from.owner (sym (ap option_copied c.in-None.is) ∙ c.get.ensures))
+    c.args.from refl None (λ k has. absurd (false≢true has))

@@ -1,0 +1,86 @@
+-- What is cached of records at pages, and its changes: from a page of a record on these rights
+-- stand, with frames as far from the pages, up to the next change.
+use Rattle.std.specs.Prelude.{◌≡◌, ◌<◌, ◌≤◌, ◌&&◌, ℕ, zero, suc, Bool, false, nat_le, nat_lt, List}
+use Rattle.std.specs.Prelude.{Option, None, Some, if◌then◌else◌}
+use Rattle.std.specs.Map.{lookup}
+use Rattle.std.specs.Option.{unwrap_or}
+use Rattle.mapdb_fpage.specs.Bounds.{page_limit}
+use Rattle.mapdb_fpage.specs.Place.{is_page}
+use Rattle.mapdb_fpage.specs.RightSets.{all_rights, no_rights}
+use Rattle.mapdb_fpage.specs.declared.right_sets.Rights.{Rights}
+use Rattle.mapdb_facts.specs.Names.{is_root, same_id}
+use Rattle.mapdb_facts.specs.declared.names.RecordId.{RecordId}
+use Rattle.mapdb_lists.specs.declared.changes.Change.{Change}
+use Rattle.mapdb_lists.specs.declared.changes.Stretch.{Stretch}
+use Rattle.mapdb_lists.specs.declared.own_changes.OwnChanges.{OwnChanges}
+use Rattle.mapdb_lists.specs.OwnChanges.{IsNoneUntil, own_change}
+
+-- rights by name and page
+abbrev pub Cached : Type 0
+Cached = RecordId → ℕ → Rights
+
+-- the page is one of these pages of the record, from the first up to before the end
+abbrev pub covers : RecordId → ℕ → ℕ → RecordId → ℕ → Bool
+covers id first end other page = same_id id other && (nat_le first page && nat_lt page end)
+
+abbrev pub PageChanges : Type 0
+PageChanges = List (RecordId × OwnChanges)
+
+-- the change at a page among those of a record, where it has some
+abbrev pub change_in : Option OwnChanges → ℕ → Option Change
+change_in None page = None
+change_in (Some own) page = own_change own page
+
+-- what stands from this page of the record on, where it changes there
+abbrev pub change_at : PageChanges → RecordId → ℕ → Option Change
+change_at changes id page = change_in (lookup (same_id id) changes) page
+
+-- what stands before any change: the root has all rights, and each page of it is its own frame
+abbrev pub at_first : RecordId → Change
+at_first id = record { rights = if is_root id then all_rights else no_rights; shift = page_limit }
+
+-- what stands behind the last page
+abbrev pub past_the_end : Change
+past_the_end = record { rights = no_rights; shift = page_limit }
+
+-- what the last change up to a page leaves
+unfoldable pub changed : (ℕ → Option Change) → Change → ℕ → Change
+changed change first zero = unwrap_or (change zero) first
+changed change first (suc page) = unwrap_or (change (suc page)) (changed change first page)
+
+-- what the changes in front of a page leave
+abbrev pub left_before : (ℕ → Option Change) → Change → ℕ → Change
+left_before change first zero = first
+left_before change first (suc page) = changed change first page
+
+-- Pages over which one change stood were given another: it stands at the first of them, by itself
+-- or since it stood in front of them; what follows at their end stays, and so do all other changes.
+pub record IsRewritten (old : ℕ → Option Change) (before : Change) (first end : ℕ)
+    (was change : Change) (new : ℕ → Option Change) : Type 0 where
+  pub at_first : unwrap_or (new first) (left_before old before first) ≡ change
+  pub at_end : end < page_limit → unwrap_or (new end) change ≡ unwrap_or (old end) was
+  pub elsewhere : (q : ℕ) → (first ≡ q → ⊥) → (end ≡ q → ⊥) → new q ≡ old q
+
+-- what the last change up to the page leaves, and an end up to which there is no other
+pub record IsStretch (at : ℕ → Option Change) (first : Change) (page : ℕ) (stretch : Stretch)
+    : Type 0 where
+  pub seen : stretch.change ≡ changed at first page
+  pub above : page < stretch.end
+  pub limit : stretch.end ≤ page_limit
+  pub none : IsNoneUntil at page stretch.end
+
+-- pages of one record were given a change, and those of the others stay
+pub record IsWritten (old : PageChanges) (id : RecordId) (first end : ℕ) (was change : Change)
+    (new : PageChanges) : Type 0 where
+  pub own : IsRewritten (change_at old id) (at_first id) first end was change (change_at new id)
+  pub others : (other : RecordId) (page : ℕ) → same_id id other ≡ false
+      → change_at new other page ≡ change_at old other page
+
+-- what the changes leave at each page of each record
+abbrev pub seen_in : PageChanges → RecordId → ℕ → Change
+seen_in changes id page = if is_page page then changed (change_at changes id) (at_first id) page
+    else past_the_end
+
+-- the cached rights that the changes stand for
+abbrev pub cached_in : PageChanges → Cached
+cached_in changes id page = (seen_in changes id page).rights

@@ -1,0 +1,10 @@
+pub mod NamedValues
+pub mod NamePlaces
+pub mod Standing
+pub mod Ascending
+pub mod OwnPlaces
+pub mod Owners
+pub mod Listing
+pub mod PageOrder
+pub mod OwnChanges
+pub mod Changes

@@ -1,0 +1,230 @@
+//! What records have at pages, kept as the pages from which something else stands.
+
+ghost use Rattle.std.specs.Prelude.{◌≡◌, ◌≤◌, ◌<◌, ◌+◌, ℕ, None, OnOk, [], true, if◌then◌else◌};
+ghost use Rattle.mapdb_facts.specs.declared.names.RecordId.{RecordId};
+ghost use Rattle.mapdb_lists.specs.Changes.{IsStretch, IsWritten, at_first, cached_in, change_at};
+ghost use Rattle.mapdb_lists.specs.Changes.{past_the_end, seen_in, covers};
+ghost use Rattle.mapdb_lists.specs.OwnChanges.{IsLastUpTo, IsNoneUntil};
+
+use crate::by_name::ByName;
+use crate::own_changes::OwnChanges;
+use mapdb_facts::RecordId;
+use mapdb_fpage::{PAGE_LIMIT, Rights};
+use std::alloc::{AllocError, Global};
+
+/// What a record has from a page on, up to its next change.
+#[derive(Clone, Copy, Debug)]
+pub struct Change {
+    /// The rights.
+    pub rights: Rights,
+    /// How far the frames lie from the pages: the frame of a page is the page and this, less
+    /// [`PAGE_LIMIT`]. It says nothing where there are no rights.
+    pub shift: u64,
+}
+
+impl Change {
+    /// What stands where there are no rights.
+    pub const NONE: Change = Change {
+        rights: Rights::NONE,
+        shift: PAGE_LIMIT,
+    };
+
+    /// Whether both are the same.
+    pub fn is(self, other: Change) -> bool
+        ensures same { result ≡ true → self ≡ other }
+        ensures itself { self ≡ other → result ≡ true }
+    {
+        self.rights == other.rights && self.shift == other.shift
+    }
+
+    /// The frame of a page.
+    pub fn frame(&self, page: u64) -> u64
+        ensures { (frame : ℕ) → frame < PAGE_LIMIT → frame + PAGE_LIMIT ≡ page + self.now.shift
+            → result ≡ frame }
+    {
+        page.saturating_add(self.shift).saturating_sub(PAGE_LIMIT)
+    }
+}
+
+impl Default for Change {
+    fn default() -> Change {
+        Change::NONE
+    }
+}
+
+/// What stands at a page, and how far.
+#[derive(Clone, Copy, Debug)]
+pub struct Stretch {
+    /// What stands there.
+    pub change: Change,
+    /// The end of the pages over which it stands.
+    pub end: u64,
+}
+
+impl Stretch {
+    /// No rights up to an end.
+    pub fn none_until(end: u64) -> Stretch
+        ensures { result ≡ (record { change = past_the_end; end = end }) }
+    {
+        Stretch {
+            change: Change::NONE,
+            end,
+        }
+    }
+}
+
+/// The changes of all records, each record's by themselves.
+#[derive(Drop)]
+pub struct AllChanges {
+    /// Those of each record, by its name.
+    pub own: ByName<OwnChanges>,
+    alloc: Global,
+}
+
+impl AllChanges {
+    /// No changes. It takes no memory.
+    pub fn new(alloc: Global) -> AllChanges
+        ensures { result.own.entries ≡ [] }
+    {
+        AllChanges {
+            own: ByName::new(alloc),
+            alloc,
+        }
+    }
+}
+
+/// The last change of a record up to a page, and where it stands.
+fn last_change(changes: &AllChanges, id: RecordId, page: u64) -> Option<(u64, Change)>
+    ensures { IsLastUpTo (change_at changes.now.own.entries id) page result }
+{
+    match changes.own.get(id) {
+        Some(own) => own.last(page),
+        None => None,
+    }
+}
+
+/// The page of the next change of a record behind a page: the end of the space where there is none.
+fn next_change(changes: &AllChanges, id: RecordId, page: u64) -> u64
+    requires { page < PAGE_LIMIT }
+    ensures above { page < result }
+    ensures limit { result ≤ PAGE_LIMIT }
+    ensures none { IsNoneUntil (change_at changes.now.own.entries id) page result }
+{
+    match changes.own.get(id) {
+        Some(own) => own.next(page),
+        None => PAGE_LIMIT,
+    }
+}
+
+/// What a record has before any change: the root has all rights, and each page of it is its own
+/// frame.
+fn first_change(id: RecordId) -> Change
+    ensures { result ≡ at_first id }
+{
+    let rights = if id.is_root() {
+        Rights::ALL
+    } else {
+        Rights::NONE
+    };
+    Change {
+        rights,
+        shift: PAGE_LIMIT,
+    }
+}
+
+/// What is cached of a record at a page.
+pub fn seen_at(changes: &AllChanges, id: RecordId, page: u64) -> Change
+    ensures { result ≡ seen_in changes.now.own.entries id page }
+{
+    if page >= PAGE_LIMIT {
+        return Change::NONE;
+    }
+    match last_change(changes, id, page) {
+        Some((_, change)) => change,
+        None => first_change(id),
+    }
+}
+
+/// The cached rights of a record at a page.
+pub fn cached_at(changes: &AllChanges, id: RecordId, page: u64) -> Rights
+    ensures { result ≡ cached_in changes.now.own.entries id page }
+{
+    seen_at(changes, id, page).rights
+}
+
+/// What is cached of a record at a page, and how far one change stands. The record's changes are
+/// looked up once.
+pub fn stretch_at(changes: &AllChanges, id: RecordId, page: u64) -> Stretch
+    requires { page < PAGE_LIMIT }
+    ensures { IsStretch (change_at changes.now.own.entries id) (at_first id) page result }
+{
+    let first = first_change(id);
+    match changes.own.get(id) {
+        Some(own) => own.stretch(first, page),
+        None => Stretch {
+            change: first,
+            end: PAGE_LIMIT,
+        },
+    }
+}
+
+/// The end of pages from one on over which one change stands.
+pub fn unchanged_until(changes: &AllChanges, id: RecordId, page: u64) -> u64
+    requires { page < PAGE_LIMIT }
+    ensures above { page < result }
+    ensures limit { result ≤ PAGE_LIMIT }
+    ensures none { (q : ℕ) → page < q → q < result → change_at changes.now.own.entries id q ≡ None }
+    ensures same { (q : ℕ) → page ≤ q → q < result
+        → seen_in changes.now.own.entries id q ≡ seen_in changes.now.own.entries id page }
+{
+    next_change(changes, id, page)
+}
+
+/// Gives a change to pages of a record among all, over which another stood. The record's changes
+/// are looked up once. An error where memory ran out.
+fn write_among(
+    own_changes: &mut ByName<OwnChanges>,
+    alloc: Global,
+    id: RecordId,
+    first: u64,
+    end: u64,
+    was: Change,
+    change: Change,
+) -> Result<(), AllocError>
+    requires { first < end }
+    ensures { OnOk result (IsWritten own_changes.old.entries id first end was change
+        own_changes.new.entries) }
+{
+    let before = first_change(id);
+    if let Some(at) = own_changes.names.place(id) {
+        return own_changes.values[at].write(alloc, before, first, end, was, change);
+    }
+    let mut own = OwnChanges::new(alloc);
+    own.write(alloc, before, first, end, was, change)?;
+    own_changes.insert(id, own)
+}
+
+/// Gives rights and frames to pages of a record over which one change stands.
+pub fn write(
+    changes: &mut AllChanges,
+    id: RecordId,
+    first: u64,
+    end: u64,
+    was: Change,
+    change: Change,
+) -> Result<(), AllocError>
+    requires some { first < end }
+    requires limit { end ≤ PAGE_LIMIT }
+    requires one { (q : ℕ) → first < q → q < end → change_at changes.old.own.entries id q ≡ None }
+    requires was { was ≡ seen_in changes.old.own.entries id first }
+    ensures seen { OnOk result ((other : RecordId) (page : ℕ)
+        → seen_in changes.new.own.entries other page
+        ≡ (if covers id first end other page then change
+        else seen_in changes.old.own.entries other page)) }
+    ensures cached { OnOk result ((other : RecordId) (page : ℕ)
+        → cached_in changes.new.own.entries other page
+        ≡ (if covers id first end other page then change.rights
+        else cached_in changes.old.own.entries other page)) }
+{
+    write_among(&mut changes.own, changes.alloc, id, first, end, was, change)
+}

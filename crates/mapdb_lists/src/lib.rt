@@ -1,0 +1,43 @@
+//! What an index of rights keeps: what records have at pages, and where records stand.
+//!
+//! [`AllChanges`] has the pages of each record from which something else stands. [`Places`] has the
+//! places of each owner, a space or the record that its children come from, and the records
+//! themselves. Nothing here knows what the facts say: that what is kept agrees with them is the
+//! caller's to see to.
+//!
+//! # A use
+//!
+//! ```
+//! let id = RecordId { number: 1, processor: 0 };
+//! let mut changes = AllChanges::new(rt.alloc());
+//! let all = Change { rights: Rights::ALL, shift: PAGE_LIMIT };
+//! write(&mut changes, id, 0x40, 0x44, Change::NONE, all)?;
+//! assert!(rt; cached_at(&changes, id, 0x43) == Rights::ALL);
+//! assert!(rt; cached_at(&changes, id, 0x44) == Rights::NONE);
+//! ```
+#![tactic(auto)]
+
+mod by_name;
+mod change_lists;
+mod changes;
+mod few_changes;
+mod few_places;
+mod limits;
+mod many_changes;
+mod many_places;
+mod name_places;
+mod names;
+mod orders;
+mod own_changes;
+mod own_places;
+mod owners_places;
+mod place_lists;
+mod place_sets;
+mod places;
+mod sorted_places;
+
+pub use changes::{
+    AllChanges, Change, Stretch, cached_at, seen_at, stretch_at, unchanged_until, write,
+};
+pub use own_places::{NextPlace, OwnPlace, OwnPlaces, Sweep};
+pub use places::{Listed, Owner, Places};

@@ -1,0 +1,272 @@
+//! The places of one owner: a few as they came, many in their order.
+
+ghost use Rattle.std.specs.Prelude.{◌≡◌, ◌≤◌, ◌<◌, ◌-◌, ◌^◌, ◌||◌, IfOk, IfSome, OnOk, []};
+ghost use Rattle.std.specs.Prelude.{option_map};
+ghost use Rattle.std.specs.BTreeMap.{is_at};
+ghost use Rattle.std.specs.BTreeMap.Range.{is_from_start};
+ghost use Rattle.std.specs.Ordering.{is_lt};
+ghost use Rattle.std.specs.declared.ops.Bound.TheVariants.{Excluded, Included};
+ghost use Rattle.mapdb_lists.specs.OwnPlaces.{AreAligned, IsAlignedPlace, IsFirstPlaceWhere};
+ghost use Rattle.mapdb_lists.specs.OwnPlaces.{IsNextPlace, found_place, IsSweptOn, ahead, at_start};
+ghost use Rattle.mapdb_lists.specs.OwnPlaces.{many_ahead, own_list, own_meets, place_cmp, stands};
+ghost use Rattle.mapdb_lists.specs.declared.own_places.OwnPlace.{OwnPlace};
+
+use crate::few_places::{least_inside, least_meeting, next_of_few};
+use crate::limits::FEW_PLACES;
+use crate::many_places::ManyPlaces;
+use mapdb_facts::RecordId;
+use mapdb_fpage::{LEAST_ORDER, PAGE_LIMIT, TOP_ORDER};
+use smallvec::SmallVec;
+use std::alloc::{AllocError, Global};
+use std::ops::Bound;
+
+/// A place of an owner, and the record that stands for it.
+#[derive(Clone, Copy, Debug, Default, PartialEq, Eq, PartialOrd, Ord)]
+pub struct OwnPlace {
+    /// The order of the place.
+    pub order: u8,
+    /// The first page of it.
+    pub first: u64,
+    /// The record that stands for it.
+    pub id: RecordId,
+}
+
+/// How many pages a place of this order has.
+pub(crate) fn pages_of_order(order: u8) -> u64
+    requires least { LEAST_ORDER ≤ order }
+    requires most { order ≤ TOP_ORDER }
+    ensures count { result ≡ 2 ^ (order - LEAST_ORDER) }
+    ensures some { 0 < result }
+    ensures limit { result ≤ PAGE_LIMIT }
+{
+    1 << (order - LEAST_ORDER)
+}
+
+impl OwnPlace {
+    /// Whether a page of the place lies among the pages from `first` on up to before `end`.
+    pub(crate) fn meets(&self, first: u64, end: u64) -> bool
+        requires { IsAlignedPlace self.now }
+        ensures { result ≡ own_meets self.now first end }
+    {
+        let own_end = self.first + pages_of_order(self.order);
+        self.first.max(first) < own_end.min(end)
+    }
+
+    /// Whether the place comes before another.
+    pub(crate) fn is_before(&self, other: &OwnPlace) -> bool
+        ensures { result ≡ is_lt (place_cmp self.now other.now) }
+    {
+        self.cmp(other).is_lt()
+    }
+}
+
+/// A place that was found, and whether it is known to be the last that is looked for.
+#[derive(Clone, Copy, Debug)]
+pub struct FoundPlace {
+    /// The place.
+    pub place: OwnPlace,
+    /// Whether none that is looked for comes behind it; where it is not known, it says no.
+    pub last: bool,
+}
+
+/// How far a sweep over the places of an owner has come.
+#[derive(Clone, Copy, Debug)]
+pub struct Sweep {
+    /// How many of a few places were looked at.
+    pub passed: usize,
+    /// The last of many places that was found.
+    pub after: Option<OwnPlace>,
+    /// Whether none of many is left behind it.
+    pub over: bool,
+}
+
+impl Sweep {
+    /// Before all places.
+    pub fn start() -> Sweep
+        ensures { result ≡ at_start }
+    {
+        Sweep {
+            passed: 0,
+            after: None,
+            over: false,
+        }
+    }
+
+    /// Past so many of a few places.
+    pub(crate) fn past(self, passed: usize) -> Sweep
+        ensures { result ≡ record self { passed = passed } }
+    {
+        Sweep { passed, ..self }
+    }
+}
+
+/// A place that a sweep found, and how far it has come with it.
+#[derive(Clone, Copy, Debug)]
+pub struct NextPlace {
+    /// The place.
+    pub place: OwnPlace,
+    /// How far the sweep has come.
+    pub sweep: Sweep,
+}
+
+/// The next of many places, in a sweep over those that meet the pages from `first` on up to before
+/// `end`.
+fn next_of_many(many: &ManyPlaces, first: u64, end: u64, sweep: Sweep) -> Option<NextPlace>
+    requires { AreAligned many.now.places }
+    ensures { IsSweptOn many.now.places (many_ahead many.now.places) first end sweep
+        result }
+{
+    if sweep.over {
+        return None;
+    }
+    match many.next_meeting(first, end, sweep.after) {
+        Some(found) => Some(NextPlace {
+            place: found.place,
+            sweep: Sweep {
+                passed: sweep.passed,
+                after: Some(found.place),
+                over: found.last,
+            },
+        }),
+        None => None,
+    }
+}
+
+/// The place that was found, where there is one.
+fn place_of(found: Option<FoundPlace>) -> Option<OwnPlace>
+    ensures { result ≡ option_map found_place found }
+{
+    match found {
+        Some(found) => Some(found.place),
+        None => None,
+    }
+}
+
+/// All places of an owner.
+#[derive(Drop)]
+pub enum OwnPlaces {
+    /// A few, as they came.
+    Few(SmallVec<OwnPlace, 2>),
+    /// Many, in ascending order.
+    Many(ManyPlaces),
+}
+
+/// These places as many.
+fn many_of(alloc: Global, places: &[OwnPlace]) -> Result<ManyPlaces, AllocError>
+    ensures { IfOk result (λ many. (k : OwnPlace)
+        → stands many.places k ≡ stands places.now k) }
+{
+    let mut many = ManyPlaces::new(alloc);
+    for place in places {
+        many.insert(alloc, *place)?;
+    }
+    Ok(many)
+}
+
+impl OwnPlaces {
+    /// No places. It takes no memory.
+    pub(crate) fn new(alloc: Global) -> OwnPlaces
+        ensures { own_list result ≡ [] }
+    {
+        OwnPlaces::Few(SmallVec::new(alloc))
+    }
+
+    /// The least place from one on.
+    pub(crate) fn first_from(&self, from: OwnPlace) -> Option<OwnPlace>
+        ensures { IsFirstPlaceWhere (is_from_start place_cmp (Included from)) (own_list self.now)
+            result }
+    {
+        match self {
+            OwnPlaces::Few(list) => least_inside(list.as_slice(), &Bound::Included(from)),
+            OwnPlaces::Many(many) => many.first_from(from),
+        }
+    }
+
+    /// The least place above one.
+    pub(crate) fn first_above(&self, after: OwnPlace) -> Option<OwnPlace>
+        ensures { IsFirstPlaceWhere (is_from_start place_cmp (Excluded after)) (own_list self.now)
+            result }
+    {
+        match self {
+            OwnPlaces::Few(list) => least_inside(list.as_slice(), &Bound::Excluded(after)),
+            OwnPlaces::Many(many) => many.first_above(after),
+        }
+    }
+
+    /// The least place, above another, that meets the pages from `first` on up to before `end`.
+    pub(crate) fn next_meeting(
+        &self,
+        first: u64,
+        end: u64,
+        after: Option<OwnPlace>,
+    ) -> Option<OwnPlace>
+        requires { AreAligned (own_list self.now) }
+        ensures { IsNextPlace (own_list self.now) first end after result }
+    {
+        match self {
+            OwnPlaces::Few(list) => least_meeting(list.as_slice(), first, end, after),
+            OwnPlaces::Many(many) => place_of(many.next_meeting(first, end, after)),
+        }
+    }
+
+    /// The next place of a sweep over those that meet the pages from `first` on up to before `end`.
+    pub fn next_place(&self, first: u64, end: u64, sweep: Sweep) -> Option<NextPlace>
+        requires { AreAligned (own_list self.now) }
+        ensures { IsSweptOn (own_list self.now) (ahead self.now) first end sweep result }
+    {
+        match self {
+            OwnPlaces::Few(list) => next_of_few(list.as_slice(), first, end, sweep),
+            OwnPlaces::Many(many) => next_of_many(many, first, end, sweep),
+        }
+    }
+
+    /// The same places as many, where they are too many for a list. An error where memory ran
+    /// out.
+    fn outgrown(&self, alloc: Global) -> Result<Option<ManyPlaces>, AllocError>
+        ensures { IfOk result (λ grown. IfSome grown (λ many. (k : OwnPlace)
+            → stands many.places k ≡ stands (own_list self.now) k)) }
+    {
+        match self {
+            OwnPlaces::Few(list) if list.len() >= FEW_PLACES => {
+                let many = many_of(alloc, list.as_slice())?;
+                Ok(Some(many))
+            }
+            _ => Ok(None),
+        }
+    }
+
+    /// Goes over to many where there are too many places for a list. An error where memory ran
+    /// out.
+    fn widen(&mut self, alloc: Global) -> Result<(), AllocError>
+        ensures { OnOk result ((k : OwnPlace) → stands (own_list self.new) k
+            ≡ stands (own_list self.old) k) }
+    {
+        if let Some(many) = self.outgrown(alloc)? {
+            *self = OwnPlaces::Many(many);
+        }
+        Ok(())
+    }
+
+    /// Puts one place more where the places are kept now. An error where memory ran out.
+    fn put(&mut self, alloc: Global, place: OwnPlace) -> Result<(), AllocError>
+        ensures { OnOk result ((k : OwnPlace) → stands (own_list self.new) k
+            ≡ (is_at (place_cmp place) k || stands (own_list self.old) k)) }
+    {
+        match self {
+            OwnPlaces::Few(list) => {
+                list.push(place)?;
+            }
+            OwnPlaces::Many(many) => many.insert(alloc, place)?,
+        }
+        Ok(())
+    }
+
+    /// Puts one place more. An error where memory ran out.
+    pub(crate) fn insert(&mut self, alloc: Global, place: OwnPlace) -> Result<(), AllocError>
+        ensures { OnOk result ((k : OwnPlace) → stands (own_list self.new) k
+            ≡ (is_at (place_cmp place) k || stands (own_list self.old) k)) }
+    {
+        self.widen(alloc)?;
+        self.put(alloc, place)
+    }
+}

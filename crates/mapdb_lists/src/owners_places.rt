@@ -1,0 +1,106 @@
+//! The places of owners: those of records by name, and those of spaces by a hash.
+
+ghost use Rattle.std.specs.Prelude.{◌≡◌, [], OnOk};
+ghost use Rattle.std.specs.Map.{lookup};
+ghost use Rattle.std.specs.Option.{option_copied};
+ghost use Rattle.mapdb_facts.specs.Names.{same_id, same_space};
+ghost use Rattle.mapdb_facts.specs.declared.names.RecordId.{RecordId};
+ghost use Rattle.mapdb_facts.specs.declared.names.Space.{Space};
+ghost use Rattle.mapdb_lists.specs.Listing.{IsPut};
+ghost use Rattle.mapdb_lists.specs.Owners.{same_owner};
+ghost use Rattle.mapdb_lists.specs.declared.places.Owner.{Owner};
+
+use crate::by_name::ByName;
+use crate::own_places::{OwnPlace, OwnPlaces};
+use crate::places::Owner;
+use mapdb_facts::{RecordId, Space};
+use std::alloc::{AllocError, Global};
+use std::collections::HashMap;
+use std::marker::Model;
+
+/// The places of owners, each owner's by themselves: there are many records, and few spaces.
+#[derive(Drop)]
+pub struct OwnersPlaces {
+    records: ByName<OwnPlaces>,
+    spaces: HashMap<Space, OwnPlaces>,
+    alloc: Global,
+}
+
+impl Model for OwnersPlaces {
+    ghost use Rattle.mapdb_lists.specs.Owners.{PlacesByOwner, by_owner};
+
+    ghost Value = { PlacesByOwner };
+
+    ghost view = { λ a. by_owner a.records.entries a.spaces.entries };
+}
+
+/// Puts a place among those of a record. An error where memory ran out.
+fn put_for_record(
+    records: &mut ByName<OwnPlaces>,
+    alloc: Global,
+    id: RecordId,
+    place: OwnPlace,
+) -> Result<(), AllocError>
+    ensures { OnOk result (IsPut RecordId same_id records.old.entries records.new.entries id
+        place) }
+{
+    if let Some(at) = records.names.place(id) {
+        return records.values[at].insert(alloc, place);
+    }
+    let mut own = OwnPlaces::new(alloc);
+    own.insert(alloc, place)?;
+    records.insert(id, own)
+}
+
+/// Puts a place among those of a space. An error where memory ran out.
+fn put_for_space(
+    spaces: &mut HashMap<Space, OwnPlaces>,
+    alloc: Global,
+    space: Space,
+    place: OwnPlace,
+) -> Result<(), AllocError>
+    ensures { OnOk result (IsPut Space same_space spaces.old.entries spaces.new.entries space
+        place) }
+{
+    if let Some(own) = spaces.get_mut(&space) {
+        return own.insert(alloc, place);
+    }
+    let mut own = OwnPlaces::new(alloc);
+    own.insert(alloc, place)?;
+    spaces.insert(space, own)?;
+    Ok(())
+}
+
+impl OwnersPlaces {
+    /// No places. It takes no memory.
+    pub(crate) fn new(alloc: Global) -> OwnersPlaces
+        ensures { result.entries ≡ [] }
+    {
+        OwnersPlaces {
+            records: ByName::new(alloc),
+            spaces: HashMap::new(alloc),
+            alloc,
+        }
+    }
+
+    /// The places of an owner, where it has some.
+    pub(crate) fn get(&self, owner: Owner) -> Option<&OwnPlaces>
+        ensures { option_copied result ≡ lookup (same_owner owner) self.now.entries }
+    {
+        match owner {
+            Owner::Record(id) => self.records.get(id),
+            Owner::Space(space) => self.spaces.get(&space),
+        }
+    }
+
+    /// Puts a place among those of an owner. An error where memory ran out.
+    pub(crate) fn put(&mut self, owner: Owner, place: OwnPlace) -> Result<(), AllocError>
+        ensures { OnOk result (IsPut Owner same_owner self.old.entries self.new.entries owner
+            place) }
+    {
+        match owner {
+            Owner::Record(id) => put_for_record(&mut self.records, self.alloc, id, place),
+            Owner::Space(space) => put_for_space(&mut self.spaces, self.alloc, space, place),
+        }
+    }
+}

@@ -1,0 +1,170 @@
+//! The places of records, by owner: a space has those of its records, a record those that its
+//! children's pages come from. Beside them the records themselves, by name.
+
+ghost use Rattle.std.specs.Prelude.{◌≡◌, ◌||◌, false, IfSome, None, OnOk, option_map};
+ghost use Rattle.std.specs.BTreeMap.{is_at};
+ghost use Rattle.std.specs.Option.{option_copied};
+ghost use Rattle.std.specs.declared.ops.Bound.TheVariants.{Excluded, Included};
+ghost use Rattle.mapdb_facts.specs.declared.names.RecordId.{RecordId};
+ghost use Rattle.mapdb_lists.specs.Listing.{AllAligned, IsFirstInside, IsNextMeeting, held_record};
+ghost use Rattle.mapdb_lists.specs.Listing.{held_with, is_listed, listed_cmp, listed_for};
+ghost use Rattle.mapdb_lists.specs.Listing.{own_place, places_in, owner_places};
+ghost use Rattle.mapdb_lists.specs.declared.places.Listed.{Listed};
+
+use crate::by_name::ByName;
+use crate::own_places::{OwnPlace, OwnPlaces};
+use crate::owners_places::OwnersPlaces;
+use mapdb_facts::{Record, RecordId, Space};
+use std::alloc::{AllocError, Global};
+
+/// Who has a place listed.
+#[derive(Clone, Copy, Debug, PartialEq, Eq)]
+pub enum Owner {
+    /// A record, the sources of its children.
+    Record(RecordId),
+    /// A space, the places of its records.
+    Space(Space),
+}
+
+/// A place of an owner, and the record that stands for it.
+#[derive(Clone, Copy, Debug, PartialEq, Eq)]
+pub struct Listed {
+    /// Whose place it is.
+    pub owner: Owner,
+    /// The order of the place.
+    pub order: u8,
+    /// The first page of it.
+    pub first: u64,
+    /// The record that stands for it.
+    pub id: RecordId,
+}
+
+impl Listed {
+    /// The place alone, whoever owns it.
+    fn own_place(self) -> OwnPlace
+        ensures { result ≡ own_place self }
+    {
+        OwnPlace {
+            order: self.order,
+            first: self.first,
+            id: self.id,
+        }
+    }
+}
+
+/// The place of an entry, where there is one.
+fn place_of(entry: Option<Listed>) -> Option<OwnPlace>
+    ensures { result ≡ option_map own_place entry }
+{
+    match entry {
+        Some(entry) => Some(entry.own_place()),
+        None => None,
+    }
+}
+
+/// A place as the owner's, where there is one.
+fn listed_for(owner: Owner, place: Option<OwnPlace>) -> Option<Listed>
+    ensures { result ≡ option_map (listed_for owner) place }
+{
+    match place {
+        Some(place) => Some(Listed {
+            owner,
+            order: place.order,
+            first: place.first,
+            id: place.id,
+        }),
+        None => None,
+    }
+}
+
+/// The places of all owners, each owner's by themselves, and the records whose they are: a step
+/// from a place to its record looks here, and not in the facts.
+#[derive(Drop)]
+pub struct Places {
+    own: OwnersPlaces,
+    held: ByName<Record>,
+}
+
+impl Places {
+    /// No places and no records. It takes no memory.
+    pub fn new(alloc: Global) -> Places
+        ensures no_place { (e : Listed) → is_listed result e ≡ false }
+        ensures no_record { (id : RecordId) → held_record result id ≡ None }
+    {
+        Places {
+            own: OwnersPlaces::new(alloc),
+            held: ByName::new(alloc),
+        }
+    }
+
+    /// Lists one entry more. An error where memory ran out.
+    pub fn insert(&mut self, entry: Listed) -> Result<(), AllocError>
+        ensures listed { OnOk result ((e : Listed) → is_listed self.new e
+            ≡ (is_at (listed_cmp entry) e || is_listed self.old e)) }
+        ensures records { (id : RecordId) → held_record self.new id ≡ held_record self.old id }
+    {
+        self.own.put(entry.owner, entry.own_place())
+    }
+
+    /// Holds one record more, under its name. An error where memory ran out.
+    pub fn hold(&mut self, mapping: &Record) -> Result<(), AllocError>
+        ensures records { OnOk result ((id : RecordId) → held_record self.new id
+            ≡ held_with self.old mapping.now id) }
+        ensures listed { (e : Listed) → is_listed self.new e ≡ is_listed self.old e }
+    {
+        self.held.insert(mapping.id, *mapping)
+    }
+
+    /// The record that is held under a name, where there is one.
+    pub fn record(&self, id: RecordId) -> Option<Record>
+        ensures { result ≡ held_record self.now id }
+    {
+        self.held.get(id).copied()
+    }
+
+    /// The places of an owner, where it has some: a walk over them looks them up once.
+    pub fn own(&self, owner: Owner) -> Option<&OwnPlaces>
+        ensures { places_in (option_copied result) ≡ owner_places self.now owner }
+    {
+        self.own.get(owner)
+    }
+
+    /// The least entry of its owner from one on.
+    pub fn first_from(&self, from: Listed) -> Option<Listed>
+        ensures { IsFirstInside self.now from.owner (Included from) result }
+    {
+        match self.own.get(from.owner) {
+            Some(own) => listed_for(from.owner, own.first_from(from.own_place())),
+            None => None,
+        }
+    }
+
+    /// The least entry of its owner above one.
+    pub fn first_above(&self, after: Listed) -> Option<Listed>
+        ensures { IsFirstInside self.now after.owner (Excluded after) result }
+    {
+        match self.own.get(after.owner) {
+            Some(own) => listed_for(after.owner, own.first_above(after.own_place())),
+            None => None,
+        }
+    }
+
+    /// The least entry of the owner, above another, that meets the pages from `first` on up to
+    /// before `end`.
+    pub fn next_meeting(
+        &self,
+        owner: Owner,
+        first: u64,
+        end: u64,
+        after: Option<Listed>,
+    ) -> Option<Listed>
+        requires aligned { AllAligned self.now }
+        requires owned { IfSome after (λ e. e.owner ≡ owner) }
+        ensures { IsNextMeeting self.now owner first end after result }
+    {
+        match self.own.get(owner) {
+            Some(own) => listed_for(owner, own.next_meeting(first, end, place_of(after))),
+            None => None,
+        }
+    }
+}

@@ -1,6 +1,0 @@
-use Rattle.mapdb_rights.proofs.Changes.FewChanges.{mapped_step}
-use Rattle.mapdb_rights.proofs.index.change_lists.map_of.Goals as goal
-
-pub loop-next-preserved : goal.loop-next-preserved
-loop-next-preserved c =
-    mapped_step c.args.list.now c.requires c.loop-next.next-index _ c.loop-next.map c.many_put.new.map c.loop-next-test.true c.in_ok-many_put.ensures c.loop-next.invariant

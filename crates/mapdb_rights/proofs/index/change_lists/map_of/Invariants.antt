@@ -1,7 +1,0 @@
-use Rattle.std.proofs.Common.{◌≡◌, ℕ, take}
-use Rattle.mapdb_rights.specs.OwnChanges.{listed_change, mapped_change}
-use Rattle.mapdb_rights.proofs.index.change_lists.map_of.Given as goal
-
--- the changes so far
-abbrev pub invariant-loop-next : goal.invariant-loop-next
-invariant-loop-next l = (page : ℕ) → mapped_change l.map page ≡ listed_change (take l.next-index l.list) page

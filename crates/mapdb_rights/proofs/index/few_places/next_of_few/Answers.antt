@@ -1,5 +1,0 @@
-use Rattle.mapdb_rights.proofs.Places.LeastPlaces.{item_stands}
-use Rattle.mapdb_rights.proofs.index.few_places.next_of_few.Goals as goal
-
-pub meets-requires : goal.meets-requires
-meets-requires c = c.requires _ (item_stands c.args.places.now c.places.at _ c.places-test.true)

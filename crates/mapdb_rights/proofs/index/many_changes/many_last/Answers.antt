@@ -1,5 +1,0 @@
-use Rattle.mapdb_rights.proofs.Changes.ManyChanges.{last_shown}
-use Rattle.mapdb_rights.proofs.index.many_changes.many_last.Goals as goal
-
-pub returns-in-Some : goal.returns-in-Some
-returns-in-Some c = last_shown c.args.map.now c.args.page _ _ _ c.in-Some.ensures.steps (c.range.ensures.in_range tt)

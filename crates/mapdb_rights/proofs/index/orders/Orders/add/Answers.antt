@@ -1,5 +1,0 @@
-use Rattle.mapdb_rights.proofs.Places.OrderBits.{with_bit}
-use Rattle.mapdb_rights.proofs.index.orders.Orders.add.Goals as goal
-
-pub returns-then-order-lt-ORDER_LIMIT : goal.returns-then-order-lt-ORDER_LIMIT
-returns-then-order-lt-ORDER_LIMIT c k = with_bit c.args.self.now.bits c.args.order k c.if-order-lt-ORDER_LIMIT.true

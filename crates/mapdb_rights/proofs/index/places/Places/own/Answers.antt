@@ -1,6 +1,0 @@
-use Rattle.std.proofs.Common.{ap}
-use Rattle.mapdb_rights.specs.Listing.{places_in}
-use Rattle.mapdb_rights.proofs.index.places.Places.own.Goals as goal
-
-pub returns : goal.returns
-returns c = ap places_in c.get.ensures

@@ -1,0 +1,48 @@
+-- Which records have their places listed: those that are held, and no others.
+use Rattle.std.specs.Prelude.{◌≡◌, ◌⊎◌, true}
+use Rattle.mapdb_fpage.specs.Place.{IsPlace}
+use Rattle.mapdb_facts.specs.Looking.{Holds}
+use Rattle.mapdb_facts.specs.State.{State}
+use Rattle.mapdb_facts.specs.declared.operations.Record.{Record}
+use Rattle.mapdb_lists.specs.Listing.{is_listed}
+use Rattle.mapdb_lists.specs.declared.places.Listed.{Listed}
+use Rattle.mapdb_lists.specs.declared.places.Owner.TheVariants as owners
+use Rattle.mapdb_lists.specs.declared.places.Places.{Places}
+
+-- a record's place stands under its space
+abbrev pub place_of : Record → Listed
+place_of r = record {
+  owner = owners.Space r.space;
+  order = r.place.order;
+  first = r.place.first_page;
+  id = r.id;
+}
+
+-- a record's source stands under its parent
+abbrev pub source_of : Record → Listed
+source_of r = record {
+  owner = owners.Record r.parent;
+  order = r.place.order;
+  first = r.source;
+  id = r.id;
+}
+
+-- both stand there, and the place is one
+pub record IsListed (set : Places) (r : Record) : Type 0 where
+  pub by_space : is_listed set (place_of r) ≡ true
+  pub by_parent : is_listed set (source_of r) ≡ true
+  pub place : IsPlace r.place
+
+-- each record that is held is listed, whether its parent is held or not
+abbrev pub HasPlaces : State → Places → Type 0
+HasPlaces S set = (r : Record) → Holds S r → IsListed set r
+
+-- a held record whose place or whose source the entry is
+pub record IsOfHeld (S : State) (e : Listed) : Type 0 where
+  pub r : Record
+  pub held : Holds S r
+  pub is : (e ≡ place_of r) ⊎ (e ≡ source_of r)
+
+-- nothing is listed but held records
+abbrev pub AreOfHeld : State → Places → Type 0
+AreOfHeld S set = (e : Listed) → is_listed set e ≡ true → IsOfHeld S e
