@@ -1,4 +1,4 @@
-use Rattle.std.proofs.Common.{◌≡◌, ◌+◌, suc, arith}
+use Rattle.std.proofs.Common.{rules, ◌≡◌, ◌+◌, suc, arith}
 use Rattle.mapdb_join.proofs.RunWalks.{next_above}
 use Rattle.mapdb_join.proofs.runs.starts.least_run.Goals as goal
 
@@ -8,3 +8,6 @@ overflow_sub-result c =
     let k = next_above 0 c.args.starts.now c.in_ok-index.index c.requires.ascending (omega (arith, bound)) in
     let e : c.in_ok-index.index + 1 ≡ suc c.in_ok-index.index = omega arith in
     rw e (omega (arith, k))
+
+pub returns-clause-some : goal.returns-clause-some
+returns-clause-some c = search rules
