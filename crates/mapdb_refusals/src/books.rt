@@ -132,12 +132,17 @@ fn found_of(alloc: Global, book: &mut Book, commands: &[Command], wanted: &Repli
     }
 }
 
+/// What is found of these commands at an empty book.
+fn found_at_book(alloc: Global, commands: &[Command], wanted: &Replica) -> Found {
+    let mut book = Book::new(alloc, 0);
+    found_of(alloc, &mut book, commands, wanted)
+}
+
 /// Commands at a book, in one of which memory may be refused.
 pub fn journal(alloc: Global) -> Found {
     let commands = one_page_there_and_back();
-    let Some(wanted) = copy_after(alloc, &commands) else {
-        return Found::Unmade;
-    };
-    let mut book = Book::new(alloc, 0);
-    found_of(alloc, &mut book, &commands, &wanted)
+    match copy_after(alloc, &commands, &[]) {
+        Some(wanted) => found_at_book(alloc, &commands, &wanted),
+        None => Found::Unmade,
+    }
 }

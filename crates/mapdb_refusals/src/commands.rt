@@ -78,22 +78,22 @@ pub fn issue(copy: &mut Replica, command: &Command) -> Result<u64, IssueFault> {
     }
 }
 
-/// The copy of processor 0 after these commands, or None where one was refused.
-pub fn copy_after(alloc: Global, commands: &[Command]) -> Option<Replica> {
-    let mut copy = Replica::new(alloc, 0);
+/// Does commands one after the other, and answers whether all are done.
+fn issue_all(copy: &mut Replica, commands: &[Command]) -> bool {
     for command in commands {
-        if issue(&mut copy, command).is_err() {
-            return None;
+        if issue(copy, command).is_err() {
+            return false;
         }
     }
-    Some(copy)
+    true
 }
 
-/// The copy of processor 0 after these commands and a last one, or None where one was refused.
-pub fn copy_behind(alloc: Global, commands: &[Command], last: &Command) -> Option<Replica> {
-    let mut copy = copy_after(alloc, commands)?;
-    match issue(&mut copy, last) {
-        Ok(_) => Some(copy),
-        Err(_) => None,
+/// The copy of processor 0 after these commands and the last ones, or None where one was refused.
+pub fn copy_after(alloc: Global, commands: &[Command], last: &[Command]) -> Option<Replica> {
+    let mut copy = Replica::new(alloc, 0);
+    if issue_all(&mut copy, commands) && issue_all(&mut copy, last) {
+        Some(copy)
+    } else {
+        None
     }
 }

@@ -1,6 +1,6 @@
 //! An exchange that gives no report, and gives one at the next call.
 
-use crate::commands::{copy_behind, map, one_page_for_many};
+use crate::commands::{copy_after, map, one_page_for_many};
 use crate::comparing::serve_alike;
 use crate::found::{Again, Found, refused, whole_again_if, whole_if};
 use mapdb_exchange::{Report, RunFault, run};
@@ -94,16 +94,21 @@ fn found_of<R: Threads + Wait + Sync>(
     }
 }
 
-/// An exchange of two processors.
-pub fn run_twice<R: Threads + Wait + Sync>(rt: &R, alloc: Global) -> Found {
-    let Some(wanted) = copy_behind(alloc, &one_page_for_many(), &of_the_other()) else {
-        return Found::Unmade;
-    };
+/// What is found of an exchange, where there is memory for its scripts.
+fn found_of_scripts<R: Threads + Wait + Sync>(rt: &R, alloc: Global, wanted: &Replica) -> Found {
     let Ok(first) = scripts_of(alloc) else {
         return Found::Unmade;
     };
     match scripts_of(alloc) {
-        Ok(second) => found_of(rt, alloc, first, second, &wanted),
+        Ok(second) => found_of(rt, alloc, first, second, wanted),
         Err(_) => Found::Unmade,
+    }
+}
+
+/// An exchange of two processors.
+pub fn run_twice<R: Threads + Wait + Sync>(rt: &R, alloc: Global) -> Found {
+    match copy_after(alloc, &one_page_for_many(), &[of_the_other()]) {
+        Some(wanted) => found_of_scripts(rt, alloc, &wanted),
+        None => Found::Unmade,
     }
 }

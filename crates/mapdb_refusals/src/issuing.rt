@@ -1,10 +1,9 @@
 //! Commands that issue some of their operations, and are made again.
 
-use crate::commands::{
-    copy_after, copy_behind, issue, map as map_place, one_page_for_many, take_it_back,
-};
+use crate::commands::{issue, map as map_place, one_page_for_many, take_it_back};
 use crate::comparing::{is_front, is_whole, serve_alike};
 use crate::found::{Again, Found, refused, refused_again_if, whole_again_if, whole_if};
+use crate::pairs::before_the_last;
 use mapdb_facts::{Op, Record, RecordId};
 use mapdb_replica::{Command, IssueFault, Replica};
 use std::alloc::Global;
@@ -124,11 +123,8 @@ fn found_of_map(copy: &mut Replica, last: &Command, wanted: &Replica) -> Found {
 pub fn unmap(alloc: Global) -> Found {
     let commands = one_page_for_many();
     let last = take_it_back();
-    let Some(wanted) = copy_behind(alloc, &commands, &last) else {
-        return Found::Unmade;
-    };
-    match copy_after(alloc, &commands) {
-        Some(mut copy) => found_of_unmap(&mut copy, &last, &wanted),
+    match before_the_last(alloc, &commands, &last) {
+        Some(mut pair) => found_of_unmap(&mut pair.copy, &last, &pair.wanted),
         None => Found::Unmade,
     }
 }
@@ -150,11 +146,8 @@ fn four_pages_apart() -> [Command; 6] {
 pub fn map(alloc: Global) -> Found {
     let commands = four_pages_apart();
     let last = map_place((1, 0x4_0000), (2, 0x8_0000), 14);
-    let Some(wanted) = copy_behind(alloc, &commands, &last) else {
-        return Found::Unmade;
-    };
-    match copy_after(alloc, &commands) {
-        Some(mut copy) => found_of_map(&mut copy, &last, &wanted),
+    match before_the_last(alloc, &commands, &last) {
+        Some(mut pair) => found_of_map(&mut pair.copy, &last, &pair.wanted),
         None => Found::Unmade,
     }
 }

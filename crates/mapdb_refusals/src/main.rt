@@ -17,6 +17,7 @@ mod indexes;
 mod issuing;
 mod journals;
 mod nodes;
+mod pairs;
 mod tables;
 mod taking;
 mod trees;

@@ -116,34 +116,63 @@ fn found_back(found: Found, copy: Option<Replica>, wanted: &Replica) -> Found {
     }
 }
 
+/// What is found of these commands at a node from one seat, which is closed with the seat.
+fn found_with_seat<R: Wait>(
+    rt: &R,
+    node: Node,
+    seats: Vec<Seat>,
+    commands: &[Command],
+    wanted: &Replica,
+) -> Found {
+    match node.seat(rt) {
+        Ok(mut seat) => {
+            let found = found_at_seat(rt, &node, &mut seat, commands);
+            found_closed(found, history_of(node, seats, seat), commands, wanted)
+        }
+        Err(_) => Found::Wrong,
+    }
+}
+
+/// The same at a new node, where a list has room for the seat.
+fn found_at_node<R: Wait>(rt: &R, alloc: Global, commands: &[Command], wanted: &Replica) -> Found {
+    match Vec::with_capacity(alloc, 1) {
+        Ok(seats) => found_with_seat(rt, Node::new(alloc, 0), seats, commands, wanted),
+        Err(_) => Found::Unmade,
+    }
+}
+
 /// Commands at a node from one seat, which is closed with the seat: the history has the calls that
 /// the seat was told, and no other.
 pub fn close<R: Wait>(rt: &R, alloc: Global) -> Found {
     let commands = one_page_there_and_back();
-    let Some(wanted) = copy_after(alloc, &commands) else {
-        return Found::Unmade;
-    };
-    let Ok(seats) = Vec::with_capacity(alloc, 1) else {
-        return Found::Unmade;
-    };
-    let node = Node::new(alloc, 0);
-    let Ok(mut seat) = node.seat(rt) else {
-        return Found::Wrong;
-    };
-    let found = found_at_seat(rt, &node, &mut seat, &commands);
-    found_closed(found, history_of(node, seats, seat), &commands, &wanted)
+    match copy_after(alloc, &commands, &[]) {
+        Some(wanted) => found_at_node(rt, alloc, &commands, &wanted),
+        None => Found::Unmade,
+    }
+}
+
+/// What is found of these commands at a node from one seat, which is closed without it.
+fn found_without_seat<R: Wait>(
+    rt: &R,
+    alloc: Global,
+    node: Node,
+    commands: &[Command],
+    wanted: &Replica,
+) -> Found {
+    match node.seat(rt) {
+        Ok(mut seat) => {
+            let found = found_at_seat(rt, &node, &mut seat, commands);
+            found_back(found, handed_back(alloc, node), wanted)
+        }
+        Err(_) => Found::Wrong,
+    }
 }
 
 /// A node that is closed without the seat that called hands the copy back, with all that was done.
 pub fn close_without_seats<R: Wait>(rt: &R, alloc: Global) -> Found {
     let commands = one_page_there_and_back();
-    let Some(wanted) = copy_after(alloc, &commands) else {
-        return Found::Unmade;
-    };
-    let node = Node::new(alloc, 0);
-    let Ok(mut seat) = node.seat(rt) else {
-        return Found::Wrong;
-    };
-    let found = found_at_seat(rt, &node, &mut seat, &commands);
-    found_back(found, handed_back(alloc, node), &wanted)
+    match copy_after(alloc, &commands, &[]) {
+        Some(wanted) => found_without_seat(rt, alloc, Node::new(alloc, 0), &commands, &wanted),
+        None => Found::Unmade,
+    }
 }

@@ -15,10 +15,19 @@ struct Tabled {
 }
 
 /// A copy with its table, which is made where memory may be refused too.
-fn with_table(alloc: Global) -> Option<Tabled> {
-    let copy = copy_after(alloc, &one_page_for_many())?;
-    let rows = build_plain(alloc, &copy).ok()?;
-    Some(Tabled { copy, rows })
+fn table_beside(alloc: Global, copy: Replica) -> Option<Tabled> {
+    match build_plain(alloc, &copy) {
+        Ok(rows) => Some(Tabled { copy, rows }),
+        Err(_) => None,
+    }
+}
+
+/// A copy that holds a page for seven spaces, with its table.
+fn copy_with_table(alloc: Global) -> Option<Tabled> {
+    match copy_after(alloc, &one_page_for_many(), &[]) {
+        Some(copy) => table_beside(alloc, copy),
+        None => None,
+    }
 }
 
 /// Whether a row is of the space of this number, and says what its first page is served from.
@@ -73,7 +82,7 @@ fn found_in_threads<R: Threads + Sync>(rt: &R, alloc: Global, tabled: &Tabled) -
 
 /// The table of a copy, in one thread.
 pub fn plain(alloc: Global) -> Found {
-    match with_table(alloc) {
+    match copy_with_table(alloc) {
         Some(tabled) => found_plain(alloc, &tabled),
         None => Found::Unmade,
     }
@@ -81,7 +90,7 @@ pub fn plain(alloc: Global) -> Found {
 
 /// The table of a copy, space by space in threads.
 pub fn in_threads<R: Threads + Sync>(rt: &R, alloc: Global) -> Found {
-    match with_table(alloc) {
+    match copy_with_table(alloc) {
         Some(tabled) => found_in_threads(rt, alloc, &tabled),
         None => Found::Unmade,
     }

@@ -1,8 +1,9 @@
 //! A batch of which some operations are taken, and which is taken again.
 
-use crate::commands::{copy_after, one_page_there_and_back};
+use crate::commands::one_page_there_and_back;
 use crate::comparing::is_same_copy;
 use crate::found::{Again, Found, refused, refused_again_if, whole_again_if, whole_if};
+use crate::pairs::{Pair, empty_beside};
 use mapdb_facts::Op;
 use mapdb_replica::{Replica, TakeFault};
 use std::alloc::Global;
@@ -68,14 +69,18 @@ fn found_of(copy: &mut Replica, batch: &[Op], wanted: &Replica) -> Found {
     }
 }
 
+/// What is found of a copy that takes all that the wanted one issued.
+fn take_all(pair: &mut Pair) -> Found {
+    match pair.wanted.give_own(0, pair.wanted.own_len()) {
+        Ok(batch) => found_of(&mut pair.copy, batch.as_slice(), &pair.wanted),
+        Err(_) => Found::Unmade,
+    }
+}
+
 /// An empty copy takes all that another one issued.
 pub fn take(alloc: Global) -> Found {
-    let Some(wanted) = copy_after(alloc, &one_page_there_and_back()) else {
-        return Found::Unmade;
-    };
-    let Ok(batch) = wanted.give_own(0, wanted.own_len()) else {
-        return Found::Unmade;
-    };
-    let mut copy = Replica::new(alloc, 1);
-    found_of(&mut copy, batch.as_slice(), &wanted)
+    match empty_beside(alloc, &one_page_there_and_back()) {
+        Some(mut pair) => take_all(&mut pair),
+        None => Found::Unmade,
+    }
 }
