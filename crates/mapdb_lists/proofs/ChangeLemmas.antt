@@ -1,5 +1,6 @@
 pub mod FewChanges
 pub mod LastChanges
+pub mod ListWrites
 pub mod ManyChanges
 pub mod RecordChanges
 pub mod Writing

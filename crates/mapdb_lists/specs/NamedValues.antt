@@ -21,6 +21,6 @@ place_of id (name ∷ names) =
     if same_id id name then Some 0 else option_map suc (place_of id names)
 
 -- one name has the value, and each other name the one that it had
-abbrev pub IsPut : {V : Type 0} → NamedValues V → RecordId → V → NamedValues V → Type 0
-IsPut old id value new = (q : RecordId) → lookup (same_id q) new.entries
+abbrev pub IsInserted : {V : Type 0} → NamedValues V → RecordId → V → NamedValues V → Type 0
+IsInserted old id value new = (q : RecordId) → lookup (same_id q) new.entries
     ≡ (if same_id id q then Some value else lookup (same_id q) old.entries)

@@ -143,7 +143,7 @@ orders_ahead first (Some p) = orders_left first p
 
 -- a sweep that has all places ahead
 abbrev pub at_start : Sweep
-at_start = record { passed = 0; after = None; over = false }
+at_start = record { passed = 0; after = None; at = 0; over = false }
 
 -- of a few places a sweep has those ahead that were not looked at
 abbrev pub few_ahead : List OwnPlace → Sweep → List OwnPlace

@@ -5,7 +5,7 @@ ghost use Rattle.std.specs.Map.{lookup};
 ghost use Rattle.std.specs.Option.{option_copied};
 ghost use Rattle.mapdb_facts.specs.Names.{same_id};
 ghost use Rattle.mapdb_facts.specs.declared.names.RecordId.{RecordId};
-ghost use Rattle.mapdb_lists.specs.NamedValues.{IsPut};
+ghost use Rattle.mapdb_lists.specs.NamedValues.{IsInserted};
 
 use crate::names::Names;
 use mapdb_facts::RecordId;
@@ -54,7 +54,7 @@ impl<V: Drop> ByName<V> {
     /// Gives a name a value, in place of the one that it has. An error where memory ran out, and
     /// then nothing has changed.
     pub(crate) fn insert(&mut self, id: RecordId, value: V) -> Result<(), AllocError>
-        ensures ok { OnOk result (IsPut self.old id value self.new) }
+        ensures ok { OnOk result (IsInserted self.old id value self.new) }
         ensures err { OnErr result (self.new.entries ≡ self.old.entries) }
     {
         if let Some(at) = self.names.place(id) {

@@ -1,7 +1,6 @@
 //! Changes of a record in a list in ascending order of page, found by halving it.
 
-ghost use Rattle.std.specs.Prelude.{◌≡◌, ◌≤◌, ◌<◌, ℕ, Some, None, IfErr, IfOk, OnOk, get_or};
-ghost use Rattle.std.specs.Prelude.{length, nat_eq, slice_set, if◌then◌else◌};
+ghost use Rattle.std.specs.Prelude.{◌≡◌, ◌≤◌, ◌<◌, ℕ, IfErr, IfOk, get_or, length};
 ghost use Rattle.mapdb_lists.specs.Changes.{IsStretch};
 ghost use Rattle.mapdb_lists.specs.OwnChanges.{IsLastUpTo, IsNoneUntil, listed_change};
 ghost use Rattle.mapdb_lists.specs.OwnChanges.{mapped_change};
@@ -12,7 +11,6 @@ use crate::changes::{Change, Stretch};
 use crate::few_changes::PageChange;
 use crate::many_changes::many_put;
 use mapdb_fpage::PAGE_LIMIT;
-use smallvec::SmallVec;
 use std::alloc::{AllocError, Global};
 use std::collections::BTreeMap;
 
@@ -84,7 +82,7 @@ pub(crate) fn list_stretch(list: &[PageChange], first: Change, page: u64) -> Str
 }
 
 /// Where the change at a page stands, or else where one belongs.
-fn index_of(list: &[PageChange], page: u64) -> Result<usize, usize>
+pub(crate) fn index_of(list: &[PageChange], page: u64) -> Result<usize, usize>
     requires { PagesRise list.now }
     ensures there { IfOk result (StandsAtPage list.now page) }
     ensures gap { IfErr result (IsGap list.now page) }
@@ -95,57 +93,6 @@ fn index_of(list: &[PageChange], page: u64) -> Result<usize, usize>
     } else {
         Err(spot)
     }
-}
-
-/// The change at a page, where one stands there.
-pub(crate) fn list_at(list: &[PageChange], page: u64) -> Option<Change>
-    requires { PagesRise list.now }
-    ensures { result ≡ listed_change list.now page }
-{
-    match index_of(list, page) {
-        Ok(index) => Some(list[index].change),
-        Err(_) => None,
-    }
-}
-
-/// Takes the change at a page out of the list, if one stands there.
-pub(crate) fn list_remove(list: &mut SmallVec<PageChange, 2>, page: u64)
-    requires { PagesRise list.old.items }
-    ensures rise { PagesRise list.new.items }
-    ensures removed { (q : ℕ) → listed_change list.new.items q
-        ≡ (if nat_eq page q then None else listed_change list.old.items q) }
-{
-    if let Ok(index) = index_of(list.as_slice(), page) {
-        list.remove(index);
-    }
-}
-
-/// Puts a change at a place of the list.
-fn set_at(list: &mut [PageChange], index: usize, next: PageChange)
-    requires { index < length list.old }
-    ensures { list.new ≡ slice_set list.old index next }
-{
-    list[index] = next;
-}
-
-/// Puts a change into the list where it belongs, in place of one that stands at its page. An error
-/// where memory ran out.
-pub(crate) fn list_put(
-    list: &mut SmallVec<PageChange, 2>,
-    page: u64,
-    change: Change,
-) -> Result<(), AllocError>
-    requires { PagesRise list.old.items }
-    ensures rise { PagesRise list.new.items }
-    ensures put { OnOk result ((q : ℕ) → listed_change list.new.items q
-        ≡ (if nat_eq page q then Some change else listed_change list.old.items q)) }
-{
-    let next = PageChange { page, change };
-    match index_of(list.as_slice(), page) {
-        Ok(index) => set_at(list.as_mut_slice(), index, next),
-        Err(index) => list.insert(index, next)?,
-    }
-    Ok(())
 }
 
 /// These changes as a map. An error where memory ran out.

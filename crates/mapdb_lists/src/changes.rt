@@ -191,7 +191,8 @@ fn write_among(
     was: Change,
     change: Change,
 ) -> Result<(), AllocError>
-    requires { first < end }
+    requires some { first < end }
+    requires one { IsNoneUntil (change_at own_changes.old.entries id) first end }
     ensures { OnOk result (IsWritten own_changes.old.entries id first end was change
         own_changes.new.entries) }
 {

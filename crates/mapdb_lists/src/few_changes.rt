@@ -1,9 +1,8 @@
 //! A few changes of a record, in ascending order of page.
 
-use crate::change_lists::{
-    list_at, list_last, list_next, list_put, list_remove, list_stretch, map_of,
-};
+use crate::change_lists::{list_last, list_next, list_stretch, map_of};
 use crate::changes::{Change, Stretch};
+use crate::list_writes::list_write;
 use mapdb_fpage::PAGE_LIMIT;
 use smallvec::SmallVec;
 use std::alloc::{AllocError, Global};
@@ -38,9 +37,8 @@ impl Model for FewChanges {
 }
 
 impl FewChanges {
-    ghost use Rattle.std.specs.Prelude.{◌≡◌, ◌≤◌, ◌<◌, ℕ, [], Some, None, IfOk, OnOk, length};
-    ghost use Rattle.std.specs.Prelude.{nat_eq, if◌then◌else◌};
-    ghost use Rattle.mapdb_lists.specs.Changes.{IsStretch};
+    ghost use Rattle.std.specs.Prelude.{◌≡◌, ◌≤◌, ◌<◌, ℕ, [], IfOk, OnOk, length};
+    ghost use Rattle.mapdb_lists.specs.Changes.{IsRewritten, IsStretch};
     ghost use Rattle.mapdb_lists.specs.OwnChanges.{IsLastUpTo, IsNoneUntil, listed_change};
     ghost use Rattle.mapdb_lists.specs.OwnChanges.{mapped_change};
 
@@ -85,27 +83,22 @@ impl FewChanges {
         list_stretch(self.list.as_slice(), first, page)
     }
 
-    /// The change at a page, where one stands there.
-    pub(crate) fn at(&self, page: u64) -> Option<Change>
-        ensures { result ≡ listed_change self.now page }
+    /// Gives a change to pages over which another stood, where this stands before any change. An
+    /// error where memory ran out.
+    pub(crate) fn write(
+        &mut self,
+        before: Change,
+        first: u64,
+        end: u64,
+        was: Change,
+        change: Change,
+    ) -> Result<(), AllocError>
+        requires some { first < end }
+        requires one { IsNoneUntil (listed_change self.old) first end }
+        ensures { OnOk result (IsRewritten (listed_change self.old) before first end was change
+            (listed_change self.new)) }
     {
-        list_at(self.list.as_slice(), page)
-    }
-
-    /// Puts a change, in place of one that stands at its page. An error where memory ran out.
-    pub(crate) fn put(&mut self, page: u64, change: Change) -> Result<(), AllocError>
-        ensures { OnOk result ((q : ℕ) → listed_change self.new q
-            ≡ (if nat_eq page q then Some change else listed_change self.old q)) }
-    {
-        list_put(&mut self.list, page, change)
-    }
-
-    /// Takes the change at a page away, if one stands there.
-    pub(crate) fn remove(&mut self, page: u64)
-        ensures { (q : ℕ) → listed_change self.new q
-            ≡ (if nat_eq page q then None else listed_change self.old q) }
-    {
-        list_remove(&mut self.list, page);
+        list_write(&mut self.list, before, first, end, was, change)
     }
 
     /// These changes as a map. An error where memory ran out.

@@ -1,7 +1,9 @@
 //! Many changes of a record, found in their order.
 
-ghost use Rattle.std.specs.Prelude.{◌≡◌, ◌≤◌, ◌<◌, ℕ, Some, OnOk, nat_eq, if◌then◌else◌};
-ghost use Rattle.mapdb_lists.specs.Changes.{IsStretch};
+ghost use Rattle.std.specs.Prelude.{◌≡◌, ◌≤◌, ◌<◌, ℕ, Some, None, OnOk, nat_eq};
+ghost use Rattle.std.specs.Prelude.{if◌then◌else◌};
+ghost use Rattle.std.specs.Option.{unwrap_or};
+ghost use Rattle.mapdb_lists.specs.Changes.{IsRewritten, IsStretch, left_before};
 ghost use Rattle.mapdb_lists.specs.OwnChanges.{IsLastUpTo, IsNoneUntil, mapped_change};
 
 use crate::changes::{Change, Stretch};
@@ -59,4 +61,93 @@ pub(crate) fn many_put(
 {
     map.insert(page, change)?;
     Ok(())
+}
+
+/// Takes the change at a page away, if one stands there.
+fn many_remove(map: &mut BTreeMap<u64, Change>, page: u64)
+    ensures { (q : ℕ) → mapped_change map.new q
+        ≡ (if nat_eq page q then None else mapped_change map.old q) }
+{
+    map.remove(&page);
+}
+
+/// What stands in front of a page, where this stands before any change.
+fn many_before(map: &BTreeMap<u64, Change>, first: Change, page: u64) -> Change
+    ensures { result ≡ left_before (mapped_change map.now) first page }
+{
+    if page == 0 {
+        return first;
+    }
+    match many_last(map, page - 1) {
+        Some((_, change)) => change,
+        None => first,
+    }
+}
+
+/// At the end of pages that get this change, what follows stays as it was. A change there that says
+/// no more than this one is not kept. An error where memory ran out.
+fn many_write_end(
+    map: &mut BTreeMap<u64, Change>,
+    end: u64,
+    was: Change,
+    change: Change,
+) -> Result<(), AllocError>
+    ensures there { OnOk result (end < PAGE_LIMIT
+        → unwrap_or (mapped_change map.new end) change
+        ≡ unwrap_or (mapped_change map.old end) was) }
+    ensures once { OnOk result (end < PAGE_LIMIT → mapped_change map.old end ≡ Some change
+        → mapped_change map.new end ≡ None) }
+    ensures elsewhere { OnOk result ((q : ℕ) → (end ≡ q → ⊥)
+        → mapped_change map.new q ≡ mapped_change map.old q) }
+{
+    if end >= PAGE_LIMIT {
+        return Ok(());
+    }
+    let Some(next) = map.get(&end).copied() else {
+        return many_put(map, end, was);
+    };
+    if next.is(change) {
+        many_remove(map, end);
+    }
+    Ok(())
+}
+
+/// Puts a change, if it is not what stands in front of its page, in place of one that stands there.
+/// An error where memory ran out.
+fn many_write_first(
+    map: &mut BTreeMap<u64, Change>,
+    before: Change,
+    page: u64,
+    change: Change,
+) -> Result<(), AllocError>
+    ensures there { OnOk result (unwrap_or (mapped_change map.new page)
+        (left_before (mapped_change map.old) before page) ≡ change) }
+    ensures once { OnOk result (change ≡ left_before (mapped_change map.old) before page
+        → mapped_change map.new page ≡ None) }
+    ensures elsewhere { OnOk result ((q : ℕ) → (page ≡ q → ⊥)
+        → mapped_change map.new q ≡ mapped_change map.old q) }
+{
+    if change.is(many_before(map, before, page)) {
+        many_remove(map, page);
+        return Ok(());
+    }
+    many_put(map, page, change)
+}
+
+/// Gives a change to pages over which another stood, where this stands before any change. An error
+/// where memory ran out.
+pub(crate) fn many_write(
+    map: &mut BTreeMap<u64, Change>,
+    before: Change,
+    first: u64,
+    end: u64,
+    was: Change,
+    change: Change,
+) -> Result<(), AllocError>
+    requires { first < end }
+    ensures { OnOk result (IsRewritten (mapped_change map.old) before first end was change
+        (mapped_change map.new)) }
+{
+    many_write_end(map, end, was, change)?;
+    many_write_first(map, before, first, change)
 }

@@ -62,7 +62,7 @@ impl ManyPlaces {
         ensures { IsFirstPlaceWhere (is_from_start place_cmp (Excluded after)) self.now.places
             result }
     {
-        let spot = self.places.first_above(after)?;
+        let spot = self.places.first_above(after, 0)?;
         Some(spot.place)
     }
 
@@ -79,8 +79,9 @@ impl ManyPlaces {
         }
     }
 
-    /// The first place above another, where there is one, that may meet the pages.
-    fn begin(&self, first: u64, end: u64, after: Option<OwnPlace>) -> Option<Spot>
+    /// The first place above another, where there is one, that may meet the pages. The other may
+    /// stand at the index `at`.
+    fn begin(&self, first: u64, end: u64, after: Option<OwnPlace>, at: usize) -> Option<Spot>
         requires { AreAligned self.now.places }
         ensures reached { HasReached self.now.places first end after
             (option_map spot_place result) }
@@ -92,7 +93,7 @@ impl ManyPlaces {
         if place.first >= end {
             return self.reach(place.order.saturating_add(1), first);
         }
-        self.places.first_above(place)
+        self.places.first_above(place, at)
     }
 
     /// What comes next that may meet the pages, behind a place that does not: from its order's
@@ -129,12 +130,14 @@ impl ManyPlaces {
         }
     }
 
-    /// The least place, above another, that meets the pages from `first` on up to before `end`.
+    /// The least place, above another, that meets the pages from `first` on up to before `end`. The
+    /// other may stand at the index `at`: then it is not searched for.
     pub(crate) fn next_meeting(
         &self,
         first: u64,
         end: u64,
         after: Option<OwnPlace>,
+        at: usize,
     ) -> Option<FoundPlace>
         requires { AreAligned self.now.places }
         ensures next { IsNextPlace self.now.places first end after
@@ -144,12 +147,13 @@ impl ManyPlaces {
         if first >= end {
             return None;
         }
-        let mut reached = self.begin(first, end, after);
+        let mut reached = self.begin(first, end, after, at);
         'orders: while let Some(spot) = reached {
             let place = spot.place;
             if place.meets(first, end) {
                 let last = self.is_last(spot, first, end);
-                return Some(FoundPlace { place, last });
+                let at = spot.at;
+                return Some(FoundPlace { place, at, last });
             }
             reached = self.pass(place, first, end);
         }

@@ -65,6 +65,8 @@ impl OwnPlace {
 pub struct FoundPlace {
     /// The place.
     pub place: OwnPlace,
+    /// Where it may stand among all.
+    pub at: usize,
     /// Whether none that is looked for comes behind it; where it is not known, it says no.
     pub last: bool,
 }
@@ -76,6 +78,8 @@ pub struct Sweep {
     pub passed: usize,
     /// The last of many places that was found.
     pub after: Option<OwnPlace>,
+    /// Where that one may stand: it is looked for there first.
+    pub at: usize,
     /// Whether none of many is left behind it.
     pub over: bool,
 }
@@ -88,6 +92,7 @@ impl Sweep {
         Sweep {
             passed: 0,
             after: None,
+            at: 0,
             over: false,
         }
     }
@@ -119,12 +124,13 @@ fn next_of_many(many: &ManyPlaces, first: u64, end: u64, sweep: Sweep) -> Option
     if sweep.over {
         return None;
     }
-    match many.next_meeting(first, end, sweep.after) {
+    match many.next_meeting(first, end, sweep.after, sweep.at) {
         Some(found) => Some(NextPlace {
             place: found.place,
             sweep: Sweep {
                 passed: sweep.passed,
                 after: Some(found.place),
+                at: found.at,
                 over: found.last,
             },
         }),
@@ -205,7 +211,7 @@ impl OwnPlaces {
     {
         match self {
             OwnPlaces::Few(list) => least_meeting(list.as_slice(), first, end, after),
-            OwnPlaces::Many(many) => place_of(many.next_meeting(first, end, after)),
+            OwnPlaces::Many(many) => place_of(many.next_meeting(first, end, after, 0)),
         }
     }
 

@@ -27,11 +27,13 @@ fn spot_at(list: &[OwnPlace], index: usize) -> Option<Spot>
         return None;
     }
     let place = list[index];
+    let at = index;
     if index + 1 < list.len() {
         let next = Some(list[index + 1]);
-        Some(Spot { place, next })
+        Some(Spot { place, next, at })
     } else {
-        Some(Spot { place, next: None })
+        let next = None;
+        Some(Spot { place, next, at })
     }
 }
 
@@ -46,13 +48,17 @@ pub(crate) fn list_from(list: &[OwnPlace], from: OwnPlace) -> Option<Spot>
     spot_at(list, index)
 }
 
-/// The least place above one, and the one behind it.
-pub(crate) fn list_above(list: &[OwnPlace], after: OwnPlace) -> Option<Spot>
+/// The least place above one, and the one behind it. Where that one stands at the index `at`, no
+/// search is needed.
+pub(crate) fn list_above(list: &[OwnPlace], after: OwnPlace, at: usize) -> Option<Spot>
     requires { Ascend list.now }
     ensures least { IsFirstPlaceWhere (is_from_start place_cmp (Excluded after)) list.now
         (option_map spot_place result) }
     ensures behind { IfSome result (IsBehind list.now) }
 {
+    if is_there(list, at, after) {
+        return spot_at(list, at + 1);
+    }
     let index = list.partition_point(|place| !after.is_before(place));
     spot_at(list, index)
 }
@@ -70,6 +76,7 @@ fn index_for(list: &[OwnPlace], place: OwnPlace) -> usize
 /// Whether a place stands at an index.
 fn is_there(list: &[OwnPlace], index: usize, place: OwnPlace) -> bool
     ensures there { result ≡ true → stands list.now place ≡ true }
+    ensures here { result ≡ true → IsAtIndex list.now index place }
     ensures not_there { result ≡ false → (d : OwnPlace) → index < length list.now
         → ¬ (get_or list.now index d ≡ place) }
 {

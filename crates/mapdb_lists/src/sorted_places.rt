@@ -146,14 +146,15 @@ impl SortedPlaces {
         }
     }
 
-    /// The least place above one, and the one behind it.
-    pub(crate) fn first_above(&self, after: OwnPlace) -> Option<Spot>
+    /// The least place above one, and the one behind it. Where that one stands at the index `at` of
+    /// a list, no search is needed.
+    pub(crate) fn first_above(&self, after: OwnPlace, at: usize) -> Option<Spot>
         ensures least { IsFirstPlaceWhere (is_from_start place_cmp (Excluded after)) self.now
             (option_map spot_place result) }
         ensures behind { IfSome result (IsBehind self.now) }
     {
         match &self.kept {
-            KeptPlaces::Listed(list) => list_above(list.as_slice(), after),
+            KeptPlaces::Listed(list) => list_above(list.as_slice(), after, at),
             KeptPlaces::Tree(tree) => set_above(tree, after),
         }
     }

@@ -1,6 +1,6 @@
 -- The changes of a list in ascending order of page: the last up to a page, the next behind it, one
 -- more and one less.
-use Rattle.std.proofs.Common.{◌≡◌, ℕ, zero, suc, ◌+◌, ◌-◌, ◌<◌, ◌≤◌, Bool, true, false, refl, sym, ap, subst, ◌∙◌, List, [], ◌∷◌, ◌++◌, length, take, drop, get_or, arith, inl, inr}
+use Rattle.std.proofs.Common.{◌≡◌, ℕ, zero, suc, ◌+◌, ◌-◌, ◌<◌, ◌≤◌, Bool, true, false, refl, sym, ap, subst, ◌∙◌, List, [], ◌∷◌, ◌++◌, length, take, drop, get_or, arith, inl, inr, rules}
 use Rattle.std.specs.Prelude.{◌⊎◌, nat_eq, nat_le, Option, Some, None, slice_set, if◌then◌else◌}
 use Rattle.std.specs.BTreeMap.{BTreeMap}
 use Rattle.std.specs.List.{insert, refill, remove}
@@ -14,7 +14,9 @@ use Rattle.std.proofs.lemmas.List.Sorted.{IsPartitionedBy-leb}
 use Rattle.mapdb_lists.specs.declared.changes.Change.{Change}
 use Rattle.mapdb_lists.specs.declared.few_changes.PageChange.{PageChange}
 use Rattle.mapdb_lists.specs.OwnChanges.{IsLastChange, IsLastUpTo, IsNoneUntil, listed_change, mapped_change, one_change, or_change}
-use Rattle.mapdb_lists.specs.PageOrder.{IsGap, IsSpot, PagesRise, StandsAtPage}
+use Rattle.mapdb_lists.specs.Changes.{left_before}
+use Rattle.mapdb_lists.specs.PageOrder.{IsFront, IsGap, IsSpot, PagesRise, StandsAtPage}
+use Rattle.mapdb_lists.proofs.ChangeLemmas.LastChanges.{changed-none, last_left}
 
 other_page : (a b : ℕ) → (a ≡ b → ⊥) → nat_eq a b ≡ false
 other_page a b apart = elim (cases_Bool (nat_eq a b)) [ inl same ↦ absurd (apart (eqb-true a b same)) | inr other ↦ other ]
@@ -130,6 +132,86 @@ module _ (list : List PageChange) (rise : PagesRise list) where
           let no : ⊥ = omega (arith, l, e, same, before) in no
     ])
 
+  -- ---- what stands at a page, and what in front of it
+
+  pub spot_behind : (page at : ℕ) → StandsAtPage list page at → IsSpot list page (at + 1)
+  spot_behind page at there = record {
+    inside = let i : at < length list = there.inside in omega (arith, i);
+    up_to = λ k d low.
+        let l : (get_or list k d).page ≤ (get_or list at d).page = no_later k at d (omega (arith, low)) there.inside in
+        let h : (get_or list at d).page ≡ page = there.here d in omega (arith, l, h);
+    behind = λ k d up within.
+        let l : (get_or list at d).page < (get_or list k d).page = rise at k d (omega (arith, up)) within in
+        let h : (get_or list at d).page ≡ page = there.here d in omega (arith, l, h);
+  }
+
+  pub front_there : (page at : ℕ) → StandsAtPage list page at → IsFront list page at
+  front_there page at there = record {
+    front = λ k d low.
+        let l : (get_or list k d).page < (get_or list at d).page = rise k at d low there.inside in
+        let h : (get_or list at d).page ≡ page = there.here d in omega (arith, l, h);
+    others = λ k d up within.
+        let l : (get_or list at d).page ≤ (get_or list k d).page = no_later at k d up within in
+        let h : (get_or list at d).page ≡ page = there.here d in omega (arith, l, h);
+  }
+
+  pub front_gap : (page at : ℕ) → IsGap list page at → IsFront list page at
+  front_gap page at gap = record {
+    front = gap.front;
+    others = λ k d up within. let l : page < (get_or list k d).page = gap.behind k d up within in omega (arith, l);
+  }
+
+  -- the changes in front of a page leave what the last of them says
+  front_spot : (page at : ℕ) → at ≤ length list → IsFront list (suc page) at → IsSpot list page at
+  front_spot page at inside is = record {
+    inside = inside;
+    up_to = λ k d low. let l : (get_or list k d).page < suc page = is.front k d low in omega (arith, l);
+    behind = λ k d up within. let l : suc page ≤ (get_or list k d).page = is.others k d up within in omega (arith, l);
+  }
+
+  pub front_none : (before : Change) (page at : ℕ) → at ≤ length list → IsFront list page at → at ≡ 0 → before ≡ left_before (listed_change list) before page
+  front_none before zero at inside is first = refl
+  front_none before (suc page) at inside is first =
+      sym (changed-none (listed_change list) before page (none_up_to page at (front_spot page at inside is) first))
+
+  pub front_some : (before : Change) (page at : ℕ) (d : PageChange) → at ≤ length list → IsFront list page at → (at ≡ 0 → ⊥)
+      → (get_or list (at - 1) d).change ≡ left_before (listed_change list) before page
+  front_some before zero at d inside is some =
+      let l : (get_or list 0 d).page < 0 = is.front 0 d (above at some) in let no : ⊥ = omega (arith, l) in absurd no
+    where
+      above : (n : ℕ) → (n ≡ 0 → ⊥) → 0 < n
+      above zero some = absurd (some refl)
+      above (suc n) some = omega arith
+  front_some before (suc page) at d inside is some =
+      sym (last_left (listed_change list) before page ((get_or list (at - 1) d).page, (get_or list (at - 1) d).change) (last_up_to page at (front_spot page at inside is) d some))
+
+  -- behind a page up to an end there is none: one at the end belongs behind those up to the page
+  pub gap_at_end : (first end spot : ℕ) → IsSpot list first spot → first < end → IsNoneUntil (listed_change list) first end
+      → ((d : PageChange) → spot < length list → (get_or list spot d).page ≡ end → ⊥) → IsGap list end spot
+  gap_at_end first end spot is some none apart = record {
+    inside = is.inside;
+    front = λ k d low. let l : (get_or list k d).page ≤ first = is.up_to k d low in omega (arith, l, some);
+    behind = λ k d up within.
+        let later : (get_or list spot d).page ≤ (get_or list k d).page = no_later spot k d up within in
+        let l : end < (get_or list spot d).page = beyond d (omega (arith, up, within)) in omega (arith, later, l);
+  }
+    where
+      three : (a b : ℕ) → (a < b) ⊎ ((a ≡ b) ⊎ (b < a))
+      three a b = grind (arith)
+
+      beyond : (d : PageChange) → spot < length list → end < (get_or list spot d).page
+      beyond d inside = elim (three (get_or list spot d).page end) [
+        | inl before ↦ absurd (some_none (sym (listed_there list rise spot d inside)
+            ∙ none (get_or list spot d).page (is.behind spot d (omega arith) inside) before))
+        | inr more ↦ elim more [
+          | inl same ↦ absurd (apart d inside same)
+          | inr later ↦ later
+        ]
+      ]
+        where
+          some_none : {c : Change} → Some c ≡ None → ⊥
+          some_none e = search rules
+
   -- ---- one less
 
   module _ (page at : ℕ) (there : StandsAtPage list page at) where
@@ -156,6 +238,20 @@ module _ (list : List PageChange) (rise : PagesRise list) where
               let l : (get_or list (i + 1) d).page < (get_or list (j + 1) d).page = rise (i + 1) (j + 1) d (omega (arith, less)) (omega (arith, inside, shorter)) in omega (arith, one, other, l)
         ]
 
+    pub remove_spot : IsSpot (remove list at) page at
+    remove_spot =
+        let shorter : length (remove list at) + 1 ≡ length list = length-remove list at there.inside in
+        record {
+          inside = let i : at < length list = there.inside in omega (arith, i, shorter);
+          up_to = λ k d low.
+              let same = low_page k d low in let l : (get_or list k d).page < (get_or list at d).page = rise k at d low there.inside in
+              let h : (get_or list at d).page ≡ page = there.here d in omega (arith, same, l, h);
+          behind = λ k d up within.
+              let same = high_page k d up in
+              let l : (get_or list at d).page < (get_or list (k + 1) d).page = rise at (k + 1) d (omega (arith, up)) (omega (arith, within, shorter)) in
+              let h : (get_or list at d).page ≡ page = there.here d in omega (arith, same, l, h);
+        }
+
   -- ---- one in place of another at its page
 
   module _ (page at : ℕ) (change : Change) (there : StandsAtPage list page at) where
@@ -179,6 +275,12 @@ module _ (list : List PageChange) (rise : PagesRise list) where
         let one = set_page i d in let other = set_page j d in
         let l : (get_or list i d).page < (get_or list j d).page = rise i j d less (omega (arith, inside, same_length)) in omega (arith, one, other, l)
 
+    pub set_stands : StandsAtPage (slice_set list at (record { page = page; change = change })) page at
+    set_stands = record {
+      inside = let i : at < length list = there.inside in let same : length (slice_set list at (record { page = page; change = change })) ≡ length list = length-set list at (record { page = page; change = change }) in omega (arith, i, same);
+      here = λ d. set_page at d ∙ there.here d;
+    }
+
   -- ---- one more, between others
 
   module _ (page at : ℕ) (change : Change) (gap : IsGap list page at) where
@@ -201,6 +303,12 @@ module _ (list : List PageChange) (rise : PagesRise list) where
       where
         again : (k at : ℕ) → at < k → k ≡ k - 1 + 1
         again k at less = omega arith
+
+    pub insert_stands : StandsAtPage (insert list at (record { page = page; change = change })) page at
+    insert_stands = record {
+      inside = let i : at ≤ length list = gap.inside in let longer : length (insert list at (record { page = page; change = change })) ≡ length list + 1 = length-insert list at (record { page = page; change = change }) gap.inside in omega (arith, i, longer);
+      here = λ d. new_here at d refl;
+    }
 
     three : (k : ℕ) → (k < at) ⊎ ((k ≡ at) ⊎ (at < k))
     three k = grind (arith)

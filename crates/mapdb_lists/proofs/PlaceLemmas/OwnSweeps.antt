@@ -46,7 +46,7 @@ module _ (places : List OwnPlace) (first end : ℕ) where
   many_none sweep on none k has = let parts = ahead_parts sweep on k has in none k parts.1 parts.0
 
   pub many_found : (sweep : Sweep) → sweep.over ≡ false → (found : FoundPlace) → IsLeastNext places first end sweep.after found.place → IsLastWhereSaid places first end found
-      → IsSweptTo places (many_ahead places) first end sweep (record { place = found.place; sweep = record { passed = sweep.passed; after = Some found.place; over = found.last } })
+      → IsSweptTo places (many_ahead places) first end sweep (record { place = found.place; sweep = record { passed = sweep.passed; after = Some found.place; at = found.at; over = found.last } })
   many_found sweep on found next last = record {
     held = next.held;
     meeting = next.meeting;

@@ -102,6 +102,12 @@ module _ (places : List OwnPlace) (ascend : Ascend places) where
     | inr not_above ↦ not_above
   ]
 
+  -- the place behind one, or none
+  pub behind_one : (index : ℕ) (p : OwnPlace) → IsAtIndex places index p → (spot : Option Spot) → IfNone spot (length places ≤ index + 1)
+      → IfSome spot (λ s. IsAtIndex places (index + 1) s.place) → IsFirstPlaceWhere (is_beyond (Some p)) places (option_map spot_place spot)
+  behind_one index p here None none next = none_next index p here none
+  behind_one index p here (Some s) none next = next_is index p s.place here next
+
   -- ---- the first place that passes, behind all that fail
 
   module _ (front test : OwnPlace → Bool) (apart : (k : OwnPlace) → front k ≡ not (test k)) (index : ℕ)

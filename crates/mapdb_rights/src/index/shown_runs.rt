@@ -4,13 +4,15 @@ ghost use Rattle.std.specs.Prelude.{◌≡◌, ◌≤◌, ◌<◌, ℕ, true};
 ghost use Rattle.mapdb_facts.specs.Facts.{state_of_facts};
 ghost use Rattle.mapdb_facts.specs.Names.{is_first_space, root};
 ghost use Rattle.mapdb_lists.specs.Changes.{cached_in};
-ghost use Rattle.mapdb_lists.specs.Listing.{meets};
+ghost use Rattle.mapdb_lists.specs.Listing.{owner_places};
+ghost use Rattle.mapdb_lists.specs.OwnPlaces.{own_list, own_meets};
+ghost use Rattle.mapdb_lists.specs.declared.places.Owner.TheVariants as owners;
 ghost use Rattle.mapdb_rights.specs.Following.{Stands};
 ghost use Rattle.mapdb_rights.specs.Live.{ShowUntil};
 
 use mapdb_facts::{Facts, RecordId, Space};
 use mapdb_fpage::PAGE_LIMIT;
-use mapdb_lists::{AllChanges, Listed, Owner, Places, unchanged_until};
+use mapdb_lists::{AllChanges, OwnPlace, OwnPlaces, Owner, Places, Sweep, unchanged_until};
 
 /// How far the root's rights go on, where it is of the space.
 fn root_until(changes: &AllChanges, space: Space, page: u64) -> u64
@@ -27,20 +29,46 @@ fn root_until(changes: &AllChanges, space: Space, page: u64) -> u64
     }
 }
 
-/// How far an entry lets the pages go on: up to where it begins, if that is behind the page, else
-/// up to the next change of its record's rights.
-fn entry_until(changes: &AllChanges, entry: Listed, page: u64) -> u64
+/// How far a place lets the pages go on: up to where it begins, if that is behind the page, else up
+/// to the next change of its record's rights.
+fn place_until(changes: &AllChanges, place: OwnPlace, page: u64) -> u64
     requires { page < PAGE_LIMIT }
     ensures above { page < result }
-    ensures same { meets entry page result ≡ true → (q : ℕ) → page ≤ q → q < result
-        → cached_in changes.now.own.entries entry.id q
-        ≡ cached_in changes.now.own.entries entry.id page }
+    ensures same { own_meets place page result ≡ true → (q : ℕ) → page ≤ q → q < result
+        → cached_in changes.now.own.entries place.id q
+        ≡ cached_in changes.now.own.entries place.id page }
 {
-    if entry.first > page {
-        entry.first
+    if place.first > page {
+        place.first
     } else {
-        unchanged_until(changes, entry.id, page)
+        unchanged_until(changes, place.id, page)
     }
+}
+
+/// The end of pages, from one on, over which all records of the space, whose places these are, go
+/// on with the rights that they have.
+fn until_among(
+    own: &OwnPlaces,
+    changes: &AllChanges,
+    listed: &Places,
+    facts: &Facts,
+    space: Space,
+    page: u64,
+) -> u64
+    requires page { page < PAGE_LIMIT }
+    requires stands { Stands changes.now listed.now (state_of_facts facts.now) }
+    requires places { owner_places listed.now (owners.Space space) ≡ own_list own.now }
+    ensures above { page < result }
+    ensures limit { result ≤ PAGE_LIMIT }
+    ensures shown { ShowUntil (state_of_facts facts.now) space page result }
+{
+    let mut end = root_until(changes, space, page);
+    let mut sweep = Sweep::start();
+    'places: while let Some(next) = own.next_place(page, end, sweep) {
+        end = end.min(place_until(changes, next.place, page));
+        sweep = next.sweep;
+    }
+    end
 }
 
 /// The end of pages, from one on, over which each record of the space, in the first space the root
@@ -59,12 +87,8 @@ pub(crate) fn show_until(
     ensures limit { result ≤ PAGE_LIMIT }
     ensures shown { ShowUntil (state_of_facts facts.now) space page result }
 {
-    let owner = Owner::Space(space);
-    let mut end = root_until(changes, space, page);
-    let mut passed = None;
-    'entries: while let Some(entry) = listed.next_meeting(owner, page, end, passed) {
-        end = end.min(entry_until(changes, entry, page));
-        passed = Some(entry);
+    match listed.own(Owner::Space(space)) {
+        Some(own) => until_among(own, changes, listed, facts, space, page),
+        None => root_until(changes, space, page),
     }
-    end
 }

@@ -1,10 +1,11 @@
 use Rattle.std.proofs.Common.{◌<◌, arith, cond, length, refl, sym, ap, subst, ◌∙◌}
-use Rattle.std.specs.Prelude.{Some}
+use Rattle.std.specs.Prelude.{Option, Some}
 use Rattle.std.specs.Map.{lookup}
 use Rattle.std.proofs.lemmas.Option.{slice_get_read}
 use Rattle.mapdb_facts.specs.Names.{same_id}
 use Rattle.mapdb_lists.specs.declared.changes.Change.{Change}
-use Rattle.mapdb_lists.specs.Changes.{IsRewritten}
+use Rattle.mapdb_lists.specs.declared.own_changes.OwnChanges.{OwnChanges}
+use Rattle.mapdb_lists.specs.Changes.{IsRewritten, change_in}
 use Rattle.mapdb_lists.specs.OwnChanges.{own_change}
 use Rattle.mapdb_lists.proofs.ChangeLemmas.RecordChanges.{written_changed, written_new}
 use Rattle.mapdb_lists.proofs.Lists.Results.{on_ok}
@@ -13,6 +14,15 @@ use Rattle.mapdb_lists.proofs.changes.write_among.Goals as goal
 
 pub index_mut-requires : goal.index_mut-requires
 index_mut-requires c = omega (arith, place_within c.own_changes.inside.names c.args.id c.in-Some.at (sym c.in-Some.ensures), c.own_changes.invariant, c.own_changes.inside.values.ok.0)
+
+pub write-requires-clause-one : goal.write-requires-clause-one
+write-requires-clause-one c q above before =
+    let within : c.in-Some.at < length c.own_changes.inside.values.items = omega (arith, place_within c.own_changes.inside.names c.args.id c.in-Some.at (sym c.in-Some.ensures), c.own_changes.invariant, c.own_changes.inside.values.ok.0) in
+    ap (λ (own : Option OwnChanges). change_in own q)
+    (sym (slice_get_read c.own_changes.inside.values.items _ c.in-Some.at c.index_mut.result.now refl within c.index_mut.ensures.value)
+    ∙ found_at c.own_changes.inside.names c.own_changes.inside.values.items c.args.id c.in-Some.at (sym c.in-Some.ensures) within
+    ∙ ap (λ table. lookup (same_id c.args.id) table.entries) c.own_changes.view_is)
+    ∙ c.requires.one q above before
 
 pub returns-in-Some : goal.returns-in-Some
 returns-in-Some c =

@@ -1,0 +1,194 @@
+//! Changes written to a list in ascending order of page, by one search.
+
+ghost use Rattle.std.specs.Prelude.{◌≡◌, ◌≤◌, ◌<◌, ℕ, Some, None, IfNone, IfOk, IfSome, OnOk};
+ghost use Rattle.std.specs.Prelude.{get_or, length, slice_set};
+ghost use Rattle.std.specs.Option.{unwrap_or};
+ghost use Rattle.mapdb_lists.specs.Changes.{IsRewritten, left_before};
+ghost use Rattle.mapdb_lists.specs.OwnChanges.{IsNoneUntil, listed_change};
+ghost use Rattle.mapdb_lists.specs.PageOrder.{IsFront, IsGap, IsSpot, PagesRise, StandsAtPage};
+ghost use Rattle.mapdb_lists.specs.declared.few_changes.PageChange.{PageChange};
+
+use crate::change_lists::index_of;
+use crate::changes::Change;
+use crate::few_changes::PageChange;
+use mapdb_fpage::PAGE_LIMIT;
+use smallvec::SmallVec;
+use std::alloc::AllocError;
+
+/// Puts a change at a place of the list.
+fn set_at(list: &mut [PageChange], index: usize, next: PageChange)
+    requires { index < length list.old }
+    ensures { list.new ≡ slice_set list.old index next }
+{
+    list[index] = next;
+}
+
+/// What stands in front of the change at an index, where this stands before any change.
+fn in_front(list: &[PageChange], index: usize, before: Change) -> Change
+    requires rise { PagesRise list.now }
+    requires inside { index ≤ length list.now }
+    ensures { (page : ℕ) → IsFront list.now page index
+        → result ≡ left_before (listed_change list.now) before page }
+{
+    if index == 0 {
+        return before;
+    }
+    list[index - 1].change
+}
+
+/// Puts a change in place of the one that stands at its page, if it is not what stands in front of
+/// it: then none is kept. Answers how many stand at the page or in front of it.
+fn write_over(
+    list: &mut SmallVec<PageChange, 2>,
+    index: usize,
+    before: Change,
+    page: u64,
+    change: Change,
+) -> usize
+    requires rise { PagesRise list.old.items }
+    requires there { StandsAtPage list.old.items page index }
+    ensures rise { PagesRise list.new.items }
+    ensures spot { IsSpot list.new.items page result }
+    ensures there { unwrap_or (listed_change list.new.items page)
+        (left_before (listed_change list.old.items) before page) ≡ change }
+    ensures once { change ≡ left_before (listed_change list.old.items) before page
+        → listed_change list.new.items page ≡ None }
+    ensures elsewhere { (q : ℕ) → (page ≡ q → ⊥)
+        → listed_change list.new.items q ≡ listed_change list.old.items q }
+{
+    if change.is(in_front(list.as_slice(), index, before)) {
+        list.remove(index);
+        return index;
+    }
+    set_at(list.as_mut_slice(), index, PageChange { page, change });
+    index + 1
+}
+
+/// Puts a change where none stands at its page, if it is not what stands in front of it. Answers
+/// how many stand at the page or in front of it. An error where memory ran out.
+fn write_between(
+    list: &mut SmallVec<PageChange, 2>,
+    index: usize,
+    before: Change,
+    page: u64,
+    change: Change,
+) -> Result<usize, AllocError>
+    requires rise { PagesRise list.old.items }
+    requires gap { IsGap list.old.items page index }
+    ensures rise { PagesRise list.new.items }
+    ensures spot { IfOk result (IsSpot list.new.items page) }
+    ensures there { OnOk result (unwrap_or (listed_change list.new.items page)
+        (left_before (listed_change list.old.items) before page) ≡ change) }
+    ensures once { OnOk result (change ≡ left_before (listed_change list.old.items) before page
+        → listed_change list.new.items page ≡ None) }
+    ensures elsewhere { OnOk result ((q : ℕ) → (page ≡ q → ⊥)
+        → listed_change list.new.items q ≡ listed_change list.old.items q) }
+{
+    if change.is(in_front(list.as_slice(), index, before)) {
+        return Ok(index);
+    }
+    list.insert(index, PageChange { page, change })?;
+    Ok(index + 1)
+}
+
+/// Puts a change, if it is not what stands in front of its page, in place of one that stands there,
+/// and answers how many stand at the page or in front of it. An error where memory ran out.
+fn write_first(
+    list: &mut SmallVec<PageChange, 2>,
+    before: Change,
+    page: u64,
+    change: Change,
+) -> Result<usize, AllocError>
+    requires { PagesRise list.old.items }
+    ensures rise { PagesRise list.new.items }
+    ensures spot { IfOk result (IsSpot list.new.items page) }
+    ensures there { OnOk result (unwrap_or (listed_change list.new.items page)
+        (left_before (listed_change list.old.items) before page) ≡ change) }
+    ensures elsewhere { OnOk result ((q : ℕ) → (page ≡ q → ⊥)
+        → listed_change list.new.items q ≡ listed_change list.old.items q) }
+{
+    match index_of(list.as_slice(), page) {
+        Ok(index) => Ok(write_over(list, index, before, page, change)),
+        Err(index) => write_between(list, index, before, page, change),
+    }
+}
+
+/// The change at an index, where it is one at this page.
+fn change_there(list: &[PageChange], index: usize, page: u64) -> Option<Change>
+    requires { PagesRise list.now }
+    ensures there { IfSome result (λ _. StandsAtPage list.now page index) }
+    ensures change { IfSome result (λ change. listed_change list.now page ≡ Some change) }
+    ensures none { IfNone result ((d : PageChange) → index < length list.now
+        → (get_or list.now index d).page ≡ page → ⊥) }
+{
+    if index < list.len() && list[index].page == page {
+        Some(list[index].change)
+    } else {
+        None
+    }
+}
+
+/// At the end of pages that get this change, what follows stays as it was. A change there that says
+/// no more than this one is not kept. So many stand at the first of the pages or in front of it,
+/// and none behind it before the end. An error where memory ran out.
+fn write_end(
+    list: &mut SmallVec<PageChange, 2>,
+    spot: usize,
+    first: u64,
+    end: u64,
+    was: Change,
+    change: Change,
+) -> Result<(), AllocError>
+    requires rise { PagesRise list.old.items }
+    requires spot { IsSpot list.old.items first spot }
+    requires some { first < end }
+    requires one { IsNoneUntil (listed_change list.old.items) first end }
+    ensures rise { PagesRise list.new.items }
+    ensures there { OnOk result (end < PAGE_LIMIT
+        → unwrap_or (listed_change list.new.items end) change
+        ≡ unwrap_or (listed_change list.old.items end) was) }
+    ensures once { OnOk result (end < PAGE_LIMIT
+        → listed_change list.old.items end ≡ Some change
+        → listed_change list.new.items end ≡ None) }
+    ensures elsewhere { OnOk result ((q : ℕ) → (end ≡ q → ⊥)
+        → listed_change list.new.items q ≡ listed_change list.old.items q) }
+{
+    if end >= PAGE_LIMIT {
+        return Ok(());
+    }
+    match change_there(list.as_slice(), spot, end) {
+        Some(next) if next.is(change) => {
+            list.remove(spot);
+        }
+        Some(_) => {}
+        None => {
+            let follows = PageChange {
+                page: end,
+                change: was,
+            };
+            list.insert(spot, follows)?;
+        }
+    }
+    Ok(())
+}
+
+/// Gives a change to pages over which another stood, where this stands before any change. An error
+/// where memory ran out.
+pub(crate) fn list_write(
+    list: &mut SmallVec<PageChange, 2>,
+    before: Change,
+    first: u64,
+    end: u64,
+    was: Change,
+    change: Change,
+) -> Result<(), AllocError>
+    requires rise { PagesRise list.old.items }
+    requires some { first < end }
+    requires one { IsNoneUntil (listed_change list.old.items) first end }
+    ensures rise { PagesRise list.new.items }
+    ensures written { OnOk result (IsRewritten (listed_change list.old.items) before first end was
+        change (listed_change list.new.items)) }
+{
+    let spot = write_first(list, before, first, change)?;
+    write_end(list, spot, first, end, was, change)
+}
