@@ -1,5 +1,5 @@
 -- What stands where one change was put in place of another, or of none.
-use Rattle.std.proofs.Common.{◌≡◌, ℕ, true, false, refl, sym, ◌∙◌, inl, inr}
+use Rattle.std.proofs.Common.{◌≡◌, ℕ, false, refl, ◌∙◌, inl, inr}
 use Rattle.std.specs.Prelude.{Option, nat_eq, if◌then◌else◌}
 use Rattle.std.proofs.lemmas.Bool.{cases_Bool, cond-false, cond-true, eq-eqb, eqb-true}
 use Rattle.mapdb_lists.specs.declared.changes.Change.{Change}

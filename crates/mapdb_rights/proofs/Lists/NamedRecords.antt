@@ -2,14 +2,12 @@
 use Rattle.std.proofs.Common.{◌≡◌, ℕ, ◌+◌, ◌<◌, Bool, true, false, cond, Some, refl, sym, ap, subst, ◌∙◌, List, [], ◌∷◌, ◌++◌, add-one, append_assoc, drop, get_or, inl, inr, length, suc}
 use Rattle.std.specs.Prelude.{◌||◌, Option, None, filter, if◌then◌else◌}
 use Rattle.std.specs.List.{All, AllByRecursion, cons_option, dedup, dedup_from, filter_map, list_any}
-use Rattle.std.specs.List.Retain.{DiffersFromLast, IsFiltered}
 use Rattle.std.specs.List.Sorted.{IsPermutation, IsSorted, IsStrictlySortedBy}
 use Rattle.std.specs.BTreeMap.{is_at}
 use Rattle.std.specs.declared.cmp.Ordering.TheVariants.{Less}
 use Rattle.std.proofs.Math.Seq.{drop-cons}
 use Rattle.std.proofs.lemmas.Bool.{cases_Bool, cond-true, false≢true}
 use Rattle.std.proofs.lemmas.List.Elements.{All-from_recursion}
-use Rattle.std.proofs.lemmas.List.Filters.{dedup_is}
 use Rattle.std.proofs.lemmas.List.Kept.{IsStrictlySortedBy-dedup}
 use Rattle.std.proofs.lemmas.List.Sorted.{list_any-IsPermutation}
 use Rattle.std.proofs.lemmas.Map.Keys.{sorted_head, sorted_tail}
@@ -79,17 +77,17 @@ module _ (alike : RecordId → RecordId → Bool) (exact : (x y : RecordId) → 
   kept_once id [] h = h
   kept_once id (x ∷ xs) h = kept_from id x xs h
 
-  module _ (old sorted new : List RecordId) (moved : IsPermutation old sorted) (left : IsFiltered (DiffersFromLast alike) [] sorted new) where
+  module _ (old sorted new : List RecordId) (moved : IsPermutation old sorted) (left : new ≡ dedup alike sorted) where
     -- names that were sorted, and of which no name is left twice
     pub names_rise : IsSorted id_cmp sorted → IsStrictlySortedBy id_cmp new
     names_rise rising =
-        subst (λ (names : List RecordId). IsStrictlySortedBy id_cmp names) (sym (dedup_is alike sorted new left))
+        subst (λ (names : List RecordId). IsStrictlySortedBy id_cmp names) (sym left)
         (IsStrictlySortedBy-dedup id_total (λ x y. exact x y ∙ sym (id_at x y)) sorted rising)
 
     -- each name is still there
     pub names_stay : (id : RecordId) → is_named old id ≡ true → is_named new id ≡ true
     names_stay id h =
-        subst (λ (names : List RecordId). is_named names id ≡ true) (sym (dedup_is alike sorted new left))
+        subst (λ (names : List RecordId). is_named names id ≡ true) (sym left)
         (kept_once id sorted (sym (list_any-IsPermutation (is_at (id_cmp id)) old sorted moved) ∙ h))
 
 -- ---- those that are looked up

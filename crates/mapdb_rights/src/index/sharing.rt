@@ -18,6 +18,7 @@ use super::listing::record_under;
 use mapdb_facts::{Facts, Record, RecordId};
 use mapdb_fpage::Fpage;
 use mapdb_lists::{OwnPlaces, Owner, Places, Sweep};
+use smallvec::SmallVec;
 use std::alloc::{AllocError, Global};
 
 /// The names of all places that meet the pages from `first` on up to before `end`, as they come.
@@ -26,12 +27,12 @@ fn names_of(
     own: &OwnPlaces,
     first: u64,
     end: u64,
-) -> Result<Vec<RecordId>, AllocError>
+) -> Result<SmallVec<RecordId, 4>, AllocError>
     requires { AreAligned (own_list own.now) }
     ensures { IfOk result (λ names. (p : OwnPlace) → stands (own_list own.now) p ≡ true
         → own_meets p first end ≡ true → is_named names.items p.id ≡ true) }
 {
-    let mut names = Vec::new(alloc);
+    let mut names = SmallVec::new(alloc);
     let mut sweep = Sweep::start();
     'places: while let Some(next) = own.next_place(first, end, sweep) {
         names.push(next.place.id)?;
@@ -41,12 +42,12 @@ fn names_of(
 }
 
 /// Puts names in ascending order, each once.
-fn put_in_order(names: &mut Vec<RecordId>)
+fn put_in_order(names: &mut SmallVec<RecordId, 4>)
     ensures ordered { IsStrictlySortedBy id_cmp names.new.items }
     ensures kept { (id : RecordId) → is_named names.old.items id ≡ true
         → is_named names.new.items id ≡ true }
 {
-    names.sort_unstable();
+    names.as_mut_slice().sort_unstable();
     names.dedup();
 }
 
@@ -57,14 +58,14 @@ fn names_meeting(
     owner: Owner,
     first: u64,
     end: u64,
-) -> Result<Vec<RecordId>, AllocError>
+) -> Result<SmallVec<RecordId, 4>, AllocError>
     requires { AllAligned listed.now }
     ensures { IfOk result (λ names. (e : Listed) → is_listed listed.now e ≡ true
         → e.owner ≡ owner → meets e first end ≡ true → is_named names.items e.id ≡ true) }
 {
     match listed.own(owner) {
         Some(own) => names_of(alloc, own, first, end),
-        None => Ok(Vec::new(alloc)),
+        None => Ok(SmallVec::new(alloc)),
     }
 }
 

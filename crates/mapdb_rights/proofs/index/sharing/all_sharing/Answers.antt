@@ -10,14 +10,14 @@ use Rattle.mapdb_rights.proofs.index.sharing.all_sharing.Goals as goal
 
 pub returns-clause-sharing : goal.returns-clause-sharing
 returns-clause-sharing c =
-    let all = sharing_is_all c.args.facts.now c.args.listed.now c.args.owner c.args.part.now c.as_slice.result.now c.put_in_order.new.names.items c.first_page.result c.end.result c.as_slice.ensures.value
+    let all = sharing_is_all c.args.facts.now c.args.listed.now c.args.owner c.args.part.now c.as_slice.result.now c.put_in_order.new.names.items c.first_page.result c.end.result c.as_slice.ensures
     c.requires.named c.requires c.first_page.ensures.page c.end.ensures.end c.put_in_order.ensures.ordered
     (λ e has own meeting. c.put_in_order.ensures.kept e.id (c.in_ok-names.ensures e has own meeting)) in
     IfOk-weaker c.named_sharing.result _ _ (λ found is. is ∙ all) c.named_sharing.ensures
 
 pub returns-clause-formed : goal.returns-clause-formed
 returns-clause-formed c =
-    let all = sharing_is_all c.args.facts.now c.args.listed.now c.args.owner c.args.part.now c.as_slice.result.now c.put_in_order.new.names.items c.first_page.result c.end.result c.as_slice.ensures.value
+    let all = sharing_is_all c.args.facts.now c.args.listed.now c.args.owner c.args.part.now c.as_slice.result.now c.put_in_order.new.names.items c.first_page.result c.end.result c.as_slice.ensures
     c.requires.named c.requires c.first_page.ensures.page c.end.ensures.end c.put_in_order.ensures.ordered
     (λ e has own meeting. c.put_in_order.ensures.kept e.id (c.in_ok-names.ensures e has own meeting)) in
     IfOk-weaker c.named_sharing.result _ _
