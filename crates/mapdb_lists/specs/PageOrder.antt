@@ -27,7 +27,7 @@ pub record IsGap (list : List PageChange) (page index : ℕ) : Type 0 where
       → page < (get_or list k d).page
 
 -- so many of the changes stand in front of the page, and all others at it or behind it
-pub record IsFront (list : List PageChange) (page index : ℕ) : Type 0 where
+pub record AreInFront (list : List PageChange) (page index : ℕ) : Type 0 where
   pub front : (k : ℕ) (d : PageChange) → k < index → (get_or list k d).page < page
   pub others : (k : ℕ) (d : PageChange) → index ≤ k → k < length list
       → page ≤ (get_or list k d).page

@@ -5,7 +5,7 @@ ghost use Rattle.std.specs.Prelude.{get_or, length, slice_set};
 ghost use Rattle.std.specs.Option.{unwrap_or};
 ghost use Rattle.mapdb_lists.specs.Changes.{IsRewritten, left_before};
 ghost use Rattle.mapdb_lists.specs.OwnChanges.{IsNoneUntil, listed_change};
-ghost use Rattle.mapdb_lists.specs.PageOrder.{IsFront, IsGap, IsSpot, PagesRise, StandsAtPage};
+ghost use Rattle.mapdb_lists.specs.PageOrder.{AreInFront, IsGap, IsSpot, PagesRise, StandsAtPage};
 ghost use Rattle.mapdb_lists.specs.declared.few_changes.PageChange.{PageChange};
 
 use crate::change_lists::index_of;
@@ -27,7 +27,7 @@ fn set_at(list: &mut [PageChange], index: usize, next: PageChange)
 fn in_front(list: &[PageChange], index: usize, before: Change) -> Change
     requires rise { PagesRise list.now }
     requires inside { index ≤ length list.now }
-    ensures { (page : ℕ) → IsFront list.now page index
+    ensures { (page : ℕ) → AreInFront list.now page index
         → result ≡ left_before (listed_change list.now) before page }
 {
     if index == 0 {

@@ -15,7 +15,7 @@ use Rattle.mapdb_lists.specs.declared.changes.Change.{Change}
 use Rattle.mapdb_lists.specs.declared.few_changes.PageChange.{PageChange}
 use Rattle.mapdb_lists.specs.OwnChanges.{IsLastChange, IsLastUpTo, IsNoneUntil, listed_change, mapped_change, one_change, or_change}
 use Rattle.mapdb_lists.specs.Changes.{left_before}
-use Rattle.mapdb_lists.specs.PageOrder.{IsFront, IsGap, IsSpot, PagesRise, StandsAtPage}
+use Rattle.mapdb_lists.specs.PageOrder.{AreInFront, IsGap, IsSpot, PagesRise, StandsAtPage}
 use Rattle.mapdb_lists.proofs.ChangeLemmas.LastChanges.{changed-none, last_left}
 
 other_page : (a b : ℕ) → (a ≡ b → ⊥) → nat_eq a b ≡ false
@@ -145,7 +145,7 @@ module _ (list : List PageChange) (rise : PagesRise list) where
         let h : (get_or list at d).page ≡ page = there.here d in omega (arith, l, h);
   }
 
-  pub front_there : (page at : ℕ) → StandsAtPage list page at → IsFront list page at
+  pub front_there : (page at : ℕ) → StandsAtPage list page at → AreInFront list page at
   front_there page at there = record {
     front = λ k d low.
         let l : (get_or list k d).page < (get_or list at d).page = rise k at d low there.inside in
@@ -155,26 +155,26 @@ module _ (list : List PageChange) (rise : PagesRise list) where
         let h : (get_or list at d).page ≡ page = there.here d in omega (arith, l, h);
   }
 
-  pub front_gap : (page at : ℕ) → IsGap list page at → IsFront list page at
+  pub front_gap : (page at : ℕ) → IsGap list page at → AreInFront list page at
   front_gap page at gap = record {
     front = gap.front;
     others = λ k d up within. let l : page < (get_or list k d).page = gap.behind k d up within in omega (arith, l);
   }
 
   -- the changes in front of a page leave what the last of them says
-  front_spot : (page at : ℕ) → at ≤ length list → IsFront list (suc page) at → IsSpot list page at
+  front_spot : (page at : ℕ) → at ≤ length list → AreInFront list (suc page) at → IsSpot list page at
   front_spot page at inside is = record {
     inside = inside;
     up_to = λ k d low. let l : (get_or list k d).page < suc page = is.front k d low in omega (arith, l);
     behind = λ k d up within. let l : suc page ≤ (get_or list k d).page = is.others k d up within in omega (arith, l);
   }
 
-  pub front_none : (before : Change) (page at : ℕ) → at ≤ length list → IsFront list page at → at ≡ 0 → before ≡ left_before (listed_change list) before page
+  pub front_none : (before : Change) (page at : ℕ) → at ≤ length list → AreInFront list page at → at ≡ 0 → before ≡ left_before (listed_change list) before page
   front_none before zero at inside is first = refl
   front_none before (suc page) at inside is first =
       sym (changed-none (listed_change list) before page (none_up_to page at (front_spot page at inside is) first))
 
-  pub front_some : (before : Change) (page at : ℕ) (d : PageChange) → at ≤ length list → IsFront list page at → (at ≡ 0 → ⊥)
+  pub front_some : (before : Change) (page at : ℕ) (d : PageChange) → at ≤ length list → AreInFront list page at → (at ≡ 0 → ⊥)
       → (get_or list (at - 1) d).change ≡ left_before (listed_change list) before page
   front_some before zero at d inside is some =
       let l : (get_or list 0 d).page < 0 = is.front 0 d (above at some) in let no : ⊥ = omega (arith, l) in absurd no

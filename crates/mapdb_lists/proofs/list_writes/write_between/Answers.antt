@@ -6,7 +6,7 @@ use Rattle.mapdb_lists.specs.declared.changes.Change.{Change}
 use Rattle.mapdb_lists.specs.declared.few_changes.PageChange.{PageChange}
 use Rattle.mapdb_lists.specs.Changes.{left_before}
 use Rattle.mapdb_lists.specs.OwnChanges.{listed_change}
-use Rattle.mapdb_lists.specs.PageOrder.{IsFront, IsSpot, PagesRise}
+use Rattle.mapdb_lists.specs.PageOrder.{AreInFront, IsSpot, PagesRise}
 use Rattle.mapdb_lists.proofs.ChangeLemmas.FewChanges.{front_gap, insert_rises, insert_stands, listed_gap, put_between, spot_behind}
 use Rattle.mapdb_lists.proofs.ChangeLemmas.ListWrites.{put_elsewhere, put_here}
 use Rattle.mapdb_lists.proofs.list_writes.write_between.Goals as goal
@@ -15,7 +15,7 @@ pub returns-then-is-clause-there : goal.returns-then-is-clause-there
 returns-then-is-clause-there c =
     let xs = c.args.list.now.items in
     let left : c.in_front.result ≡ left_before (listed_change xs) c.args.before c.args.page =
-    subst (λ (l : List PageChange). IsFront l c.args.page c.args.index → c.in_front.result ≡ left_before (listed_change l) c.args.before c.args.page)
+    subst (λ (l : List PageChange). AreInFront l c.args.page c.args.index → c.in_front.result ≡ left_before (listed_change l) c.args.before c.args.page)
     c.as_slice.ensures (c.in_front.ensures c.args.page) (front_gap xs c.requires.rise c.args.page c.args.index c.requires.gap) in
     ap (λ (o : Option Change). unwrap_or o (left_before (listed_change xs) c.args.before c.args.page))
     (listed_gap xs c.requires.rise c.args.page c.args.index c.requires.gap)

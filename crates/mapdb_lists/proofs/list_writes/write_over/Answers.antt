@@ -8,7 +8,7 @@ use Rattle.mapdb_lists.specs.declared.changes.Change.{Change}
 use Rattle.mapdb_lists.specs.declared.few_changes.PageChange.{PageChange}
 use Rattle.mapdb_lists.specs.Changes.{left_before}
 use Rattle.mapdb_lists.specs.OwnChanges.{listed_change}
-use Rattle.mapdb_lists.specs.PageOrder.{IsFront, IsSpot, PagesRise}
+use Rattle.mapdb_lists.specs.PageOrder.{AreInFront, IsSpot, PagesRise}
 use Rattle.mapdb_lists.proofs.ChangeLemmas.FewChanges.{front_there, put_over, refilled, remove_rises, remove_spot, removed, set_rises, set_stands, spot_behind}
 use Rattle.mapdb_lists.proofs.ChangeLemmas.ListWrites.{put_elsewhere, put_here}
 use Rattle.mapdb_lists.proofs.list_writes.write_over.Goals as goal
@@ -27,7 +27,7 @@ pub returns-then-is-clause-there : goal.returns-then-is-clause-there
 returns-then-is-clause-there c =
     let xs = c.args.list.now.items in
     let left : c.in_front.result ≡ left_before (listed_change xs) c.args.before c.args.page =
-    subst (λ (l : List PageChange). IsFront l c.args.page c.args.index → c.in_front.result ≡ left_before (listed_change l) c.args.before c.args.page)
+    subst (λ (l : List PageChange). AreInFront l c.args.page c.args.index → c.in_front.result ≡ left_before (listed_change l) c.args.before c.args.page)
     c.as_slice.ensures (c.in_front.ensures c.args.page) (front_there xs c.requires.rise c.args.page c.args.index c.requires.there) in
     ap (λ (o : Option Change). unwrap_or o (left_before (listed_change xs) c.args.before c.args.page))
     (ap (λ (l : List PageChange). listed_change l c.args.page) c.remove.ensures.items
@@ -82,7 +82,7 @@ pub returns-clause-once : goal.returns-clause-once
 returns-clause-once c same =
     let xs = c.args.list.now.items in
     let left : c.in_front.result ≡ left_before (listed_change xs) c.args.before c.args.page =
-    subst (λ (l : List PageChange). IsFront l c.args.page c.args.index → c.in_front.result ≡ left_before (listed_change l) c.args.before c.args.page)
+    subst (λ (l : List PageChange). AreInFront l c.args.page c.args.index → c.in_front.result ≡ left_before (listed_change l) c.args.before c.args.page)
     c.as_slice.ensures (c.in_front.ensures c.args.page) (front_there xs c.requires.rise c.args.page c.args.index c.requires.there) in
     absurd (true≢false (sym (c.is.ensures.itself (same ∙ sym left)) ∙ c.if-is.false))
 
