@@ -35,14 +35,6 @@ impl Ops {
     {
         self.items.as_slice()
     }
-
-    /// The operations as a vector.
-    pub fn into_vec(self) -> Vec<Op>
-        ensures { result.items ≡ self }
-    {
-        let Ops { items } = self;
-        items
-    }
 }
 
 /// What one command of a processor issued, for another processor.

@@ -6,5 +6,6 @@ pub mod SeenClashes
 pub mod SoundTakes
 pub mod TakenBatches
 pub mod TurnsOfBatches
+pub mod Unfinished
 pub mod UnheldClashes
 pub mod UnheldTurns

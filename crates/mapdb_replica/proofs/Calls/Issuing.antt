@@ -14,7 +14,7 @@ use Rattle.mapdb_facts.specs.Looking.{IsGreatest}
 use Rattle.mapdb_facts.specs.Names.{is_root_number, number_limit, processor_limit, same_id}
 use Rattle.mapdb_facts.specs.Records.{greatest_number, records_of}
 use Rattle.mapdb_facts.specs.State.{State, first_of, join, said, state_of}
-use Rattle.mapdb_facts.specs.WellFormed.{checked, has_bad_number, has_bad_processor, has_early_parent, has_unaligned_source, has_wide_source, is_number, is_reference, names_root_number}
+use Rattle.mapdb_facts.specs.WellFormed.{checked, has_bad_number, has_bad_processor, has_late_parent, has_unaligned_source, has_wide_source, is_number, is_reference, names_root_number}
 use Rattle.mapdb_facts.specs.declared.checking.OpFault.{OpFault}
 use Rattle.mapdb_facts.specs.declared.names.RecordId.{RecordId}
 use Rattle.mapdb_facts.specs.declared.names.Space.{Space}
@@ -57,9 +57,9 @@ free_next S r n free is id above =
     ∙ cond-false (same_id r.id id) (Some r) None (numbers_differ r.id id (omega arith))
 
 -- an operation without faults
-checked_from : (op : Op) → has_bad_number op ≡ false → has_bad_processor op ≡ false → has_early_parent op ≡ false → has_unaligned_source op ≡ false → names_root_number op ≡ false → has_wide_source op ≡ false → checked op ≡ Ok tt
+checked_from : (op : Op) → has_bad_number op ≡ false → has_bad_processor op ≡ false → has_late_parent op ≡ false → has_unaligned_source op ≡ false → names_root_number op ≡ false → has_wide_source op ≡ false → checked op ≡ Ok tt
 checked_from op number processor parent source space wide =
-    cond-false (has_bad_number op) _ _ number ∙ cond-false (has_bad_processor op) _ _ processor ∙ cond-false (has_early_parent op) _ _ parent
+    cond-false (has_bad_number op) _ _ number ∙ cond-false (has_bad_processor op) _ _ processor ∙ cond-false (has_late_parent op) _ _ parent
     ∙ cond-false (has_unaligned_source op) _ _ source ∙ cond-false (names_root_number op) _ _ space ∙ cond-false (has_wide_source op) _ _ wide
 
 module _ (number processor : ℕ) (receiver : Space) (transfer : Transfer) (greatest : ℕ) (piece : Piece) (fits : IsFitting transfer.source greatest piece) (low : greatest < number) (high : number < number_limit) (issuer : processor < processor_limit) (space : is_root_number receiver ≡ false) where

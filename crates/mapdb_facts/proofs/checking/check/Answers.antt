@@ -4,8 +4,8 @@ use Rattle.mapdb_facts.proofs.checking.check.Goals as goal
 pub returns-then-has_bad_processor : goal.returns-then-has_bad_processor
 returns-then-has_bad_processor c = search rules
 
-pub returns-then-has_early_parent : goal.returns-then-has_early_parent
-returns-then-has_early_parent c = search rules
+pub returns-then-has_late_parent : goal.returns-then-has_late_parent
+returns-then-has_late_parent c = search rules
 
 pub returns-then-has_unaligned_source : goal.returns-then-has_unaligned_source
 returns-then-has_unaligned_source c = search rules
