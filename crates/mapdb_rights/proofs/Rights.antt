@@ -4,6 +4,7 @@ pub mod FramesFrom
 pub mod FramesOn
 pub mod FromParents
 pub mod Narrow
+pub mod OneFrameRelation
 pub mod OneRelation
 pub mod Settled
 pub mod SourcePages

@@ -1,6 +1,6 @@
--- Who has which right at which page (Map, Unmap), as a relation. The recursion of `Right` computes
--- it.
-use Rattle.std.specs.Prelude.{◌≡◌, ◌↔◌, ℕ, ◌<◌, Bool, true, false, Some}
+-- Who has which right at which page (Map, Unmap), and which frame is reached there, as relations.
+-- The recursions of `Right` and `Frame` compute them.
+use Rattle.std.specs.Prelude.{◌≡◌, ◌↔◌, ℕ, ◌<◌, Bool, true, false, Option, Some}
 use Rattle.mapdb_fpage.specs.Bounds.{page_limit}
 use Rattle.mapdb_fpage.specs.Place.{holds}
 use Rattle.mapdb_fpage.specs.RightSets.{includes}
@@ -9,6 +9,7 @@ use Rattle.mapdb_facts.specs.Names.{is_root}
 use Rattle.mapdb_facts.specs.State.{State}
 use Rattle.mapdb_facts.specs.declared.names.RecordId.{RecordId}
 use Rattle.mapdb_facts.specs.declared.operations.Record.{Record}
+use Rattle.mapdb_rights.specs.Frame.{frame_at}
 use Rattle.mapdb_rights.specs.Right.{has_right, source_page}
 
 -- the held record of this name hands the right on at the page, if its parent has it
@@ -37,3 +38,26 @@ OneRelationSaysWhoHas =
     (S : State) → SaysWhoHas S (has_right S)
     × ((has : RecordId → ℕ → Right → Bool) → SaysWhoHas S has
     → (id : RecordId) (page : ℕ) (right : Right) → has id page right ≡ has_right S id page right)
+
+-- the held record of this name leads from the page to its parent
+pub record LeadsOn (S : State) (id : RecordId) (r : Record) (page : ℕ) : Type 0 where
+  pub held : S.record_at id ≡ Some r
+  pub in_place : holds r.place page ≡ true
+  pub parent_is_before : r.parent.number < id.number
+
+-- The root reaches each page of the space as its own frame. A record reaches the frame at a page
+-- where it leads to its parent, and its parent reaches that frame at the source page.
+pub record SaysFrames (S : State) (reached : RecordId → ℕ → Option ℕ) : Type 0 where
+  pub root : (id : RecordId) (page frame : ℕ) → is_root id ≡ true
+      → (reached id page ≡ Some frame) ↔ ((page < page_limit) × (frame ≡ page))
+  pub child : (id : RecordId) (page frame : ℕ) → is_root id ≡ false
+      → (reached id page ≡ Some frame)
+      ↔ ((r : Record) × LeadsOn S id r page
+      × (reached r.parent (source_page r page) ≡ Some frame))
+
+-- the recursion says which frame is reached, and whatever says it is the same
+abbrev pub OneRelationSaysFrames : Type 0
+OneRelationSaysFrames =
+    (S : State) → SaysFrames S (frame_at S)
+    × ((reached : RecordId → ℕ → Option ℕ) → SaysFrames S reached
+    → (id : RecordId) (page : ℕ) → reached id page ≡ frame_at S id page)

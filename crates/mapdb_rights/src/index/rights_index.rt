@@ -21,7 +21,7 @@ pub struct RightsIndex {
 impl RightsIndex {
     ghost use Rattle.std.specs.Prelude.{
       ◌≡◌,
-      ◌⊎◌,
+      [],
       Ok,
       None,
       Some,
@@ -36,10 +36,12 @@ impl RightsIndex {
     ghost use Rattle.mapdb_facts.specs.Facts.{state_of_facts};
     ghost use Rattle.mapdb_facts.specs.State.{State, nothing};
     ghost use Rattle.mapdb_facts.specs.WellFormed.{is_formed};
+    ghost use Rattle.mapdb_lists.specs.Listing.{held_record, is_listed};
+    ghost use Rattle.mapdb_lists.specs.declared.places.Listed.{Listed};
     ghost use Rattle.mapdb_rights.specs.PageRights.{pair_at};
     ghost use Rattle.mapdb_rights.specs.Right.{rights_at};
     ghost use Rattle.mapdb_rights.specs.RightsRuns.{rights_runs};
-    ghost use Rattle.mapdb_rights.specs.Index.{StandsFor, StoodBefore};
+    ghost use Rattle.mapdb_rights.specs.Index.{KeptUpBefore, StandsFor, StoodBefore};
 
     /// The index of no facts. It takes no memory.
     pub fn new(alloc: Global) -> RightsIndex
@@ -105,11 +107,13 @@ impl RightsIndex {
     /// index stays as it is, without an error.
     pub fn added(&mut self, facts: &Facts, op: &Op) -> Result<(), AllocError>
         requires formed { is_formed op.now ≡ true }
-        requires stood { (self.old.absent ≡ true)
-            ⊎ StoodBefore self.old op.now (state_of_facts facts.now) }
+        requires stood { KeptUpBefore self.old op.now (state_of_facts facts.now) }
         ensures ok { OnOk result (self.old.absent ≡ false
             → StandsFor self.new (state_of_facts facts.now)) }
         ensures memory { OnErr result (self.new.absent ≡ true) }
+        ensures nothing_kept { OnErr result ((self.new.changes.own.entries ≡ [])
+            × ((e : Listed) → is_listed self.new.listed e ≡ false)
+            × ((id : RecordId) → held_record self.new.listed id ≡ None)) }
         ensures absent { self.old.absent ≡ true → (result ≡ Ok tt) × (self.new ≡ self.old) }
     {
         if self.absent {
