@@ -22,7 +22,7 @@ use Rattle.mapdb_cluster.proofs.Steps.StepTells.{with_same}
 use Rattle.mapdb_script.specs.Accepting.{heard}
 use Rattle.mapdb_script.specs.Answering.{Answered, ScriptCluster, LineDone, Refused, accepting, happened, line_done, loaded}
 use Rattle.mapdb_script.specs.Reply.{taken_text}
-use Rattle.mapdb_script.specs.States.{AnswersText, Does, IsTakeTold, IsToldAs}
+use Rattle.mapdb_script.specs.States.{Does, IsTakeTold, IsToldAs}
 use Rattle.mapdb_script.specs.declared.answering.Reply.{Reply as Answer}
 use Rattle.mapdb_lines.specs.declared.fault.LineFault.{LineFault}
 use Rattle.mapdb_script.specs.declared.replies.Refusal.TheVariants as refusal
@@ -51,8 +51,7 @@ module _ (c : ScriptCluster) (move : Move) where
   taken_told : (at : ℕ) (copy new : Log) (batch : List Op) (outcome : Result (List Op) TakeFault) (taken : Result ℕ TakeFault) (result : Result Answer TurnFault)
       → slice_get c.net.copies at ≡ Some copy → accepting c.accepted move ≡ heard c.accepted at true → TakeCases batch outcome taken copy new → IsTakeTold taken result
       → Does result (record { net = with_copy c.net at new; accepted = heard c.accepted at (is_ok taken) }) (Ok (line_done c move (take_done c.net at copy batch Enough outcome)))
-  taken_told at copy new batch (Ok ops) (Ok count) (Ok reply) there hears takes told = rw (told, takes.0, takes.1, hears) refl
-  taken_told at copy new batch (Ok ops) (Ok count) (Err f) there hears takes told = rw told tt
+  taken_told at copy new batch (Ok ops) (Ok count) result there hears takes told = rw (told, takes.0, takes.1, hears) refl
   taken_told at copy new batch (Ok ops) (Err (take.Memory n)) result there hears takes told = rw told tt
   taken_told at copy new batch (Ok ops) (Err fault) result there hears takes told = absurd takes
   taken_told at copy new batch (Err why) (Ok count) result there hears takes told = absurd takes
@@ -116,19 +115,15 @@ no_processors c into from found some is none =
     rw (lt-ltb 0 (length c.net.copies) some) (ap (λ (d : Done). let r : Result LineDone LineFault = Ok (line_done c (Happens (event.Join into from) Enough) d) in r)
     (missing_by c.net into from found (nat_lt into (length c.net.copies)) (nat_lt from (length c.net.copies)) refl refl is none))
 
-answer_told : (c : ScriptCluster) (text : List ℕ) (result : Result Answer TurnFault) → AnswersText text result → Does result c (Ok (record { reply = Answered text; cluster = c }))
-answer_told c text (Ok reply) told = rw told refl
-answer_told c text (Err f) told = rw told tt
-
-merge_same_by : (c : ScriptCluster) (at : ℕ) (copy : Log) (result : Result Answer TurnFault) → slice_get c.net.copies at ≡ Some copy → AnswersText (taken_text 0) result
+merge_same_by : (c : ScriptCluster) (at : ℕ) (copy : Log) (result : Result Answer TurnFault) → slice_get c.net.copies at ≡ Some copy → IsTakeTold (Ok 0) result
     → Does result (record { net = c.net; accepted = heard c.accepted at true }) (happened c (event.Join at at))
 merge_same_by c at copy result there told =
     let after : ScriptCluster = record { net = c.net; accepted = heard c.accepted at true } in
     let done : happened c (event.Join at at) ≡ Ok (record { reply = Answered (taken_text 0); cluster = after }) = rw (some_copy c.net.copies at copy there, there, eq-eqb at at refl) refl in
-    rw done (answer_told after (taken_text 0) result told)
+    rw (done, told) refl
 
 -- a copy that takes all of itself
-pub merge_same : (c : ScriptCluster) (into from : ℕ) (result : Result Answer TurnFault) → into < length c.net.copies → into ≡ from → AnswersText (taken_text 0) result
+pub merge_same : (c : ScriptCluster) (into from : ℕ) (result : Result Answer TurnFault) → into < length c.net.copies → into ≡ from → IsTakeTold (Ok 0) result
     → Does result (record { net = c.net; accepted = heard c.accepted into true }) (happened c (event.Join into from))
 merge_same c into from result within e told = elim (slice_get_cases c.net.copies into).1 [
   | inl found ↦ rw (← e) (merge_same_by c into found.0 result found.2 told)

@@ -1,7 +1,7 @@
 //! What copies tell each other by the lines of a script, and how they compare.
 
 use crate::answering::{Reply, ScriptCluster};
-use crate::replies::{Refusal, covers_text, message_text, same_text};
+use crate::replies::Refusal;
 use crate::turn_fault::TurnFault;
 use mapdb_cluster::send;
 use mapdb_lines::LineFault;
@@ -46,10 +46,7 @@ impl ScriptCluster {
             return Ok(Reply::Refused(Refusal::NoProcessor));
         };
         match send(&self.copies[at], first, end, &mut self.messages) {
-            Ok(sent) => {
-                let text = message_text(self.alloc, sent.message, sent.count)?;
-                Ok(Reply::Answered(text))
-            }
+            Ok(sent) => Ok(Reply::Sent(sent)),
             Err(GiveFault::BadMark) => Ok(Reply::Refused(Refusal::BadMark)),
             Err(GiveFault::Memory) => Err(TurnFault::Memory),
         }
@@ -68,7 +65,7 @@ impl ScriptCluster {
         };
         let taken = self.copies[at].take(message.ops());
         self.sequence.hear(at, taken.is_ok());
-        Reply::taken(self.alloc, taken)
+        Reply::taken(taken)
     }
 
     /// Has a processor's copy take all that another one's holds, in its order of arrival.
@@ -81,11 +78,11 @@ impl ScriptCluster {
         };
         if into == from {
             self.sequence.hear(into, true);
-            return Reply::taken(self.alloc, Ok(0));
+            return Reply::taken(Ok(0));
         }
         let taken = merge_among(self.copies.as_mut_slice(), into, from);
         self.sequence.hear(into, taken.is_ok());
-        Reply::taken(self.alloc, taken)
+        Reply::taken(taken)
     }
 
     /// Asks whether the copies of two processors hold the same.
@@ -96,8 +93,7 @@ impl ScriptCluster {
         let Some((at, other)) = self.places(at, other)? else {
             return Ok(Reply::Refused(Refusal::NoProcessor));
         };
-        let text = same_text(self.alloc, self.copies[at].same(&self.copies[other]))?;
-        Ok(Reply::Answered(text))
+        Ok(Reply::Same(self.copies[at].same(&self.copies[other])))
     }
 
     /// Asks whether a processor's copy holds all that another one's holds.
@@ -108,7 +104,6 @@ impl ScriptCluster {
         let Some((at, other)) = self.places(at, other)? else {
             return Ok(Reply::Refused(Refusal::NoProcessor));
         };
-        let text = covers_text(self.alloc, self.copies[at].covers(&self.copies[other]))?;
-        Ok(Reply::Answered(text))
+        Ok(Reply::Covers(self.copies[at].covers(&self.copies[other])))
     }
 }

@@ -15,9 +15,9 @@ returns-in-Err c =
     rw (← there.0) (command_refused (cluster_of c.args.self.now) c.in-Some.at c.index_mut.result.now c.apply.new.self
     c.args.command.now c.in-Err.fault _ there.1 c.index_mut.ensures.value c.in-Err.ensures.applies c.refused.ensures)
 
-pub returns-in_ok-text-in-Ok : goal.returns-in_ok-text-in-Ok
-returns-in_ok-text-in-Ok c =
+pub returns-in_ok-accept-in-Ok : goal.returns-in_ok-accept-in-Ok
+returns-in_ok-accept-in-Ok c =
     let there = rw c.in-Some.is at c.in_ok-at.ensures.there in
-    rw (← there.0, c.in_ok-text-in-Ok.ensures, c.in_ok-accept-in-Ok.ensures)
+    rw (← there.0, c.in_ok-accept-in-Ok.ensures)
     (command_accepted (cluster_of c.args.self.now) c.in-Some.at c.index_mut.result.now c.apply.new.self
     c.args.command.now c.in-Ok.applied there.1 c.index_mut.ensures.value c.in-Ok.ensures.applies)
