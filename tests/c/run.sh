@@ -2,7 +2,7 @@
 # Builds the archive, compiles the header, the examples and the tests with all warnings as errors,
 # and runs them: as C99, C17 and C++17, under the address and undefined-behaviour sanitizers, under
 # valgrind where it is there, from installations where make is there, and by scripts against l4map.
-# The last line is 'N passed, M failed'.
+# It needs gcc, g++ and nm. The last line is 'N passed, M failed'.
 # Use: tests/c/run.sh, anywhere; with an archive that is built: ARCHIVE=FILE tests/c/run.sh; with
 # more random scripts: RANDOM_SCRIPTS=10000 tests/c/run.sh
 set -u
@@ -108,9 +108,9 @@ for way in plain sanitized; do
     try "calls in C++, $way" "$build/calls_cpp_$way"
 done
 
-# What calls cost is told, and no cost is asked for.
+# What calls cost is measured: that it ends well is asked, and no cost is.
 compiled costs gcc -O2 bench/c/calls.c c/mapdb_heap.c
-try "what calls cost" "$build/costs"
+try "calls are timed" "$build/costs"
 
 # A program with no C library at all.
 freestanding() {
@@ -127,7 +127,9 @@ installed() {
         there=$build/$folder
         make -s -o "$ARCHIVE" ARCHIVE="$ARCHIVE" BUILT="$build/made" DESTDIR= PREFIX="$there" \
             install || return 1
-        grep -qx "prefix=$there" "$there/lib/pkgconfig/mapdb.pc" || return 1
+        for name in mapdb mapdb-heap; do
+            grep -qx "prefix=$there" "$there/lib/pkgconfig/$name.pc" || return 1
+        done
         gcc -O2 -I"$there/include" examples/c/smallest.c -L"$there/lib" -lmapdb_c -lmapdb_heap \
             -o "$build/installed_$folder" && "$build/installed_$folder" || return 1
     done
