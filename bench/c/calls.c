@@ -5,8 +5,8 @@
  *
  * It prints, for each call, the mean time in nanoseconds: of one call, or of an operation that is
  * given, or of a row of the table. Spaces and pages are taken in an order that is random and the
- * same each time. Of questions the time is the least of five rounds, since other work on the machine
- * only makes rounds longer; Map, Unmap, operations and the table are timed once.
+ * same each time. Of questions the time is the least of five rounds, since other work on the
+ * machine only makes rounds longer; Map, Unmap, operations and the table are timed once.
  */
 #define _POSIX_C_SOURCE 200809L
 
