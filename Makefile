@@ -24,18 +24,21 @@ $(BUILT)/%: examples/c/%.c include/mapdb.h $(BUILT)/mapdb_heap.o $(ARCHIVE)
 $(BUILT)/calls: bench/c/calls.c include/mapdb.h $(BUILT)/mapdb_heap.o $(ARCHIVE)
 	$(CC) $(CFLAGS) -Iinclude -o $@ $< $(BUILT)/mapdb_heap.o $(ARCHIVE)
 
-# The heap over malloc has an archive of its own, which a kernel with a heap leaves out. mapdb.pc
-# names the folder of this installation, so it is made anew each time.
+# The heap over malloc has an archive of its own, which a kernel with a heap leaves out: mapdb.pc
+# names the library alone, and mapdb-heap.pc both. They name the folder of this installation, so they
+# are made anew each time.
 install: $(ARCHIVE) $(BUILT)/mapdb_heap.o
 	install -d $(DESTDIR)$(PREFIX)/include $(DESTDIR)$(PREFIX)/lib/pkgconfig
 	install -m 644 include/mapdb.h $(DESTDIR)$(PREFIX)/include
 	install -m 644 $(ARCHIVE) $(DESTDIR)$(PREFIX)/lib
-	ar rcs $(DESTDIR)$(PREFIX)/lib/libmapdb_heap.a $(BUILT)/mapdb_heap.o
-	sed 's#@PREFIX@#$(abspath $(PREFIX))#' mapdb.pc.in > $(BUILT)/mapdb.pc
-	install -m 644 $(BUILT)/mapdb.pc $(DESTDIR)$(PREFIX)/lib/pkgconfig
+	$(AR) rcs $(DESTDIR)$(PREFIX)/lib/libmapdb_heap.a $(BUILT)/mapdb_heap.o
+	for name in mapdb mapdb-heap; do \
+	    sed 's#@PREFIX@#$(abspath $(PREFIX))#' $$name.pc.in > $(BUILT)/$$name.pc && \
+	    install -m 644 $(BUILT)/$$name.pc $(DESTDIR)$(PREFIX)/lib/pkgconfig || exit 1; \
+	done
 
 test: $(ARCHIVE)
-	tests/c/run.sh
+	ARCHIVE=$(ARCHIVE) tests/c/run.sh
 
 clean:
 	rm -rf $(BUILT)

@@ -72,6 +72,9 @@ extern "C" {
 #define MAPDB_NONNULL
 #endif
 
+/* The version of the library. */
+#define MAPDB_VERSION "1.0.0"
+
 /* The rights of a page. */
 enum {
     MAPDB_EXECUTE = 1,
@@ -113,7 +116,7 @@ enum mapdb_status {
     MAPDB_BAD_NUMBER = 19,       /* a number of no record: 2^40 or more, or 0 but for the root's */
     MAPDB_PARENT_NOT_BEFORE = 20, /* a record's number is not greater than its parent's */
     MAPDB_SOURCE_UNALIGNED = 21, /* a record's source is no multiple of its place's page count */
-    MAPDB_PAGE_OUT_OF_SPACE = 22, /* a record's source, or a page of a call, is beyond the space */
+    MAPDB_PAGE_OUT_OF_SPACE = 22, /* a record's source, or mapdb_run_end's page, is 2^36 or more */
     MAPDB_BAD_RIGHTS = 23,       /* rights of 8 or more */
     MAPDB_CLASH = 24,            /* two different records have one name */
     MAPDB_BAD_MARK = 25,         /* the first mark is above the end mark, or that above the list */

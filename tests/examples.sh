@@ -1,8 +1,9 @@
 #!/usr/bin/env bash
 # Runs the examples that are more than a script: copies on several machines
 # (examples/many-machines), and the check of a kernel's log (examples/checking); and the commands
-# that texts show. The program is L4MAP, or crates/l4map/out/l4map. The last line is
-# `N passed, M failed`; the status is 0 only where none failed.
+# that texts show; and whether all files name one version. The program is L4MAP, or
+# crates/l4map/out/l4map. The last line is `N passed, M failed`; the status is 0 only where none
+# failed.
 set -uo pipefail
 top=$(CDPATH= cd -- "$(dirname -- "$0")/.." && pwd)
 L4MAP=$(realpath -m -- "${L4MAP:-$top/crates/l4map/out/l4map}")
@@ -82,6 +83,23 @@ log_checking() {
         "processor 0 was last changed by line 4: map 0 0 11000/12:rw- 0 1 41000/12" "status 1"
 }
 
+# The version, as each file that has it names it: a line for each.
+versions() {
+    sed -n 's/^pub const VERSION: &str = "\([^ "]*\).*/\1/p' "$top/crates/l4map/src/help.rt"
+    sed -n 's/^#define MAPDB_VERSION "\(.*\)"$/\1/p' "$top/include/mapdb.h"
+    sed -n 's/^Version: //p' "$top/mapdb.pc.in"
+    sed -n 's/^Version: //p' "$top/mapdb-heap.pc.in"
+    sed -n 's/^version = "\(.*\)"$/\1/p' "$top/bindings/rust/Cargo.toml"
+    sed -n 's/^\.TH L4MAP .* "l4map \([^"]*\)".*/\1/p' "$top/docs/l4map.1"
+}
+
+# Six files name the version, all of them the same.
+one_version() {
+    versions >"$folder/told"
+    [[ $(wc -l <"$folder/told") -eq 6 && $(sort -u "$folder/told" | wc -l) -eq 1 ]]
+    count "six files name one version" $?
+}
+
 # Each command that a text shows writes what the text shows.
 shown() {
     "$top/tests/shown.py" "$top/$1" "$L4MAP" >"$folder/told" 2>&1
@@ -95,5 +113,6 @@ shown docs/CHECKING.md
 shown docs/PICTURES.md
 shown docs/SCRIPT.md
 shown examples/many-machines/README.md
+one_version
 echo "$passed passed, $failed failed"
 [[ $failed -eq 0 ]]

@@ -3,9 +3,10 @@
  *
  *     make build/calls && build/calls
  *
- * It prints, for each call, the mean time in nanoseconds of one call. Spaces and pages are taken in
- * an order that is random and the same each time. Each time is the least of five rounds, since
- * other work on the machine only makes rounds longer.
+ * It prints, for each call, the mean time in nanoseconds: of one call, or of an operation that is
+ * given, or of a row of the table. Spaces and pages are taken in an order that is random and the
+ * same each time. Of questions the time is the least of five rounds, since other work on the
+ * machine only makes rounds longer; Map, Unmap, operations and the table are timed once.
  */
 #define _POSIX_C_SOURCE 200809L
 
@@ -146,6 +147,32 @@ static double unmap_time(mapdb_copy *copy)
     return (now() - begun) / 1000;
 }
 
+/* The mean time of an operation, where all are given in batches of 100. */
+static double give_time(mapdb_copy *copy)
+{
+    enum { BATCH = 100 };
+    static mapdb_operation room[BATCH];
+    double begun = now();
+    uint64_t count;
+    uint32_t first;
+
+    for (first = 0; first < RECORDS; first += BATCH)
+        expect(mapdb_give(copy, first, first + BATCH, room, BATCH, &count), "mapdb_give");
+    return (now() - begun) / RECORDS;
+}
+
+/* The mean time of a row of the table. */
+static double table_time(mapdb_copy *copy)
+{
+    enum { MOST_ROWS = RECORDS + 1 };
+    static mapdb_row rows[MOST_ROWS];
+    double begun = now();
+    uint64_t count;
+
+    expect(mapdb_table(copy, rows, MOST_ROWS, &count), "mapdb_table");
+    return (now() - begun) / (double)count;
+}
+
 int main(void)
 {
     mapdb_copy copy = MAPDB_EMPTY;
@@ -158,6 +185,8 @@ int main(void)
     printf("mapdb_served   %7.0f ns\n", mean_time(&copy, ask_served));
     printf("mapdb_rights   %7.0f ns\n", mean_time(&copy, ask_rights));
     printf("mapdb_run_end  %7.0f ns\n", mean_time(&copy, ask_run_end));
+    printf("mapdb_give     %7.0f ns an operation\n", give_time(&copy));
+    printf("mapdb_table    %7.0f ns a row\n", table_time(&copy));
     printf("mapdb_unmap    %7.0f ns\n", unmap_time(&copy));
     mapdb_destroy(&copy);
     return 0;

@@ -2,7 +2,7 @@
 # Builds the archive, compiles the header, the examples and the tests with all warnings as errors,
 # and runs them: as C99, C17 and C++17, under the address and undefined-behaviour sanitizers, under
 # valgrind where it is there, from installations where make is there, and by scripts against l4map.
-# The last line is 'N passed, M failed'.
+# It needs gcc, g++ and nm. The last line is 'N passed, M failed'.
 # Use: tests/c/run.sh, anywhere; with an archive that is built: ARCHIVE=FILE tests/c/run.sh; with
 # more random scripts: RANDOM_SCRIPTS=10000 tests/c/run.sh
 set -u
@@ -60,7 +60,8 @@ try "the header's calls are those of the archive" declared
 
 warnings="-Wall -Wextra -Wpedantic -Wshadow -Werror"
 c_files="c/mapdb_heap.c examples/c/smallest.c examples/c/two_processors.c tests/c/calls.c
-    tests/c/counting_heap.c tests/c/memory.c tests/c/orders.c tests/c/script.c bench/c/calls.c"
+    tests/c/queries.c tests/c/counting_heap.c tests/c/memory.c tests/c/orders.c tests/c/script.c
+    bench/c/calls.c"
 for compiler in gcc clang; do
     command -v $compiler >/dev/null 2>&1 || continue
     for file in $c_files; do
@@ -91,26 +92,31 @@ for way in plain sanitized; do
         compiled smallest_$way gcc $flags examples/c/smallest.c c/mapdb_heap.c
         compiled two_processors_$way gcc $flags examples/c/two_processors.c c/mapdb_heap.c
         compiled calls_$way gcc $flags tests/c/calls.c tests/c/counting_heap.c
+        compiled queries_$way gcc $flags tests/c/queries.c tests/c/counting_heap.c
         compiled memory_$way gcc $flags tests/c/memory.c tests/c/counting_heap.c
         compiled orders_$way gcc $flags tests/c/orders.c c/mapdb_heap.c
         compiled script_$way gcc $flags tests/c/script.c c/mapdb_heap.c
         try "the heap, $way" gcc $flags -c -o "$build/heap_$way.o" tests/c/counting_heap.c
-        compiled calls_cpp_$way g++ -std=c++17 $flags -x c++ tests/c/calls.c \
-            -x none "$build/heap_$way.o"
+        for part in calls queries; do
+            compiled "${part}_cpp_$way" g++ -std=c++17 $flags -x c++ "tests/c/$part.c" \
+                -x none "$build/heap_$way.o"
+        done
     }
     try "smallest, $way" "$build/smallest_$way"
     for turn in 1 2 3 4 5; do
         try "two processors, $way, turn $turn" "$build/two_processors_$way"
     done
     try "calls, $way" "$build/calls_$way"
+    try "queries, $way" "$build/queries_$way"
     try "memory, $way" "$build/memory_$way"
     try "orders, $way" "$build/orders_$way"
     try "calls in C++, $way" "$build/calls_cpp_$way"
+    try "queries in C++, $way" "$build/queries_cpp_$way"
 done
 
-# What calls cost is told, and no cost is asked for.
+# What calls cost is measured: that it ends well is asked, and no cost is.
 compiled costs gcc -O2 bench/c/calls.c c/mapdb_heap.c
-try "what calls cost" "$build/costs"
+try "calls are timed" "$build/costs"
 
 # A program with no C library at all.
 freestanding() {
@@ -127,7 +133,9 @@ installed() {
         there=$build/$folder
         make -s -o "$ARCHIVE" ARCHIVE="$ARCHIVE" BUILT="$build/made" DESTDIR= PREFIX="$there" \
             install || return 1
-        grep -qx "prefix=$there" "$there/lib/pkgconfig/mapdb.pc" || return 1
+        for part in mapdb mapdb-heap; do
+            grep -qx "prefix=$there" "$there/lib/pkgconfig/$part.pc" || return 1
+        done
         gcc -O2 -I"$there/include" examples/c/smallest.c -L"$there/lib" -lmapdb_c -lmapdb_heap \
             -o "$build/installed_$folder" && "$build/installed_$folder" || return 1
     done
@@ -137,7 +145,8 @@ if command -v make >/dev/null 2>&1; then
 fi
 
 if command -v valgrind >/dev/null 2>&1; then
-    for program in smallest_plain two_processors_plain calls_plain memory_plain orders_plain; do
+    for program in smallest_plain two_processors_plain calls_plain queries_plain memory_plain \
+        orders_plain; do
         try "$program under valgrind" valgrind -q --leak-check=full \
             --errors-for-leak-kinds=all --error-exitcode=9 "$build/$program"
     done

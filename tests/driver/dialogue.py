@@ -20,11 +20,11 @@ def answers(source: bytes) -> Iterator[tuple[bytes, bytes]]:
         yield line, told[len(before):]
 
 
-def comes(running: subprocess.Popen, wanted: bytes) -> bytes:
-    """What comes within some seconds, up to as many bytes as are wanted."""
+def comes(running: subprocess.Popen, wanted: bytes, seconds: float) -> bytes:
+    """What comes within these seconds, up to as many bytes as are wanted."""
     found = b""
     while len(found) < len(wanted):
-        ready, _, _ = select.select([running.stdout], [], [], SECONDS)
+        ready, _, _ = select.select([running.stdout], [], [], seconds)
         more = running.stdout.read1(len(wanted) - len(found)) if ready else b""
         if not more:
             break
@@ -32,15 +32,15 @@ def comes(running: subprocess.Popen, wanted: bytes) -> bytes:
     return found
 
 
-def dialogue(program: Program, script: Script) -> Iterator[Met]:
+def dialogue(program: Program, script: Script, seconds: float = SECONDS) -> Iterator[Met]:
     """Writes the lines of a script one by one into a pipe, and reads the answer to each before the
-    next, up to the first that does not come."""
+    next, up to the first that does not come within these seconds."""
     command = [program.path] + script.arguments
     with subprocess.Popen(command, stdin=subprocess.PIPE, stdout=subprocess.PIPE) as running:
         for number, (line, wanted) in enumerate(answers(script.source), 1):
             running.stdin.write(line)
             running.stdin.flush()
-            found = comes(running, wanted)
+            found = comes(running, wanted, seconds)
             name = "%s, the answer to line %d" % (script.name, number)
             yield Met(found == wanted, name, repr(found))
             if found != wanted:

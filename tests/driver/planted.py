@@ -7,6 +7,7 @@ from typing import Optional
 from driver.interposer import Interposer
 from driver.program import Program
 from driver.tally import Met, Tally
+from planted.dialogue import dialogue_faults
 from planted.faults import Fault, Scene, is_reported
 from planted.fuzz import fuzz_faults
 from planted.hostile import hostile_faults
@@ -22,8 +23,9 @@ INTERPOSED = ("refusals", "libraries", "links", "streams", "sums")
 
 
 def all_faults() -> list[Fault]:
-    return (rows_faults() + pictures_faults() + refusals_faults() + libraries_faults()
-            + links_faults() + streams_faults() + hostile_faults() + fuzz_faults() + sums_faults())
+    return (rows_faults() + dialogue_faults() + pictures_faults() + refusals_faults()
+            + libraries_faults() + links_faults() + streams_faults() + hostile_faults()
+            + fuzz_faults() + sums_faults())
 
 
 def run_planted(

@@ -6,12 +6,30 @@
 //!
 //! The program supplies the heap's three functions, `memcpy`, `memmove` and `memset`, as
 //! `include/mapdb.h` says; `docs/KERNELS.md` has what a kernel does beside that.
+//!
+//! # A use
+//!
+//! ```no_run
+//! use mapdb::{Fpage, READ, Replica, Space};
+//!
+//! # fn main() -> Result<(), Box<dyn std::error::Error>> {
+//! let task = Space { number: 1, version: 0 };
+//! let page = Fpage { address: 0x10000, order: 12, rights: READ };
+//! let window = Fpage { address: 0x40000, order: 12, rights: 0 };
+//! let mut copy = Replica::new(0)?;
+//! copy.map(Space::ROOT, 0, &page, task, &window)?;
+//! let found = copy.served(task, 0x40)?.expect("the page is mapped");
+//! assert_eq!((found.frame, found.rights), (0x10, READ));
+//! # Ok(())
+//! # }
+//! ```
 #![no_std]
 
+mod errors;
 mod raw;
 mod status;
 
-pub use raw::{Found, Fpage, Operation, Row, Space};
+pub use raw::{END, EXECUTE, Found, Fpage, Operation, READ, RECORD, REVOCATION, Row, Space, WRITE};
 pub use status::Status;
 
 use raw::{Handle, Issued, Taken};
@@ -60,6 +78,7 @@ pub struct Records {
 }
 
 /// One processor's copy.
+#[derive(Debug)]
 pub struct Replica {
     handle: Handle,
 }

@@ -2,8 +2,23 @@
 
 use core::ffi::c_void;
 
+/// The right to execute. Rights are a set, added up of these three.
+pub const EXECUTE: u32 = 1;
+/// The right to write.
+pub const WRITE: u32 = 2;
+/// The right to read.
+pub const READ: u32 = 4;
+
+/// The kind of an operation that is a record.
+pub const RECORD: u32 = 1;
+/// The kind of an operation that is a revocation.
+pub const REVOCATION: u32 = 2;
+/// The kind of an operation that is the end of a space.
+pub const END: u32 = 3;
+
 /// A copy, or none: what the calls keep there is their own.
 #[repr(C)]
+#[derive(Debug)]
 pub struct Handle {
     pub at: *mut c_void,
 }
@@ -18,6 +33,14 @@ pub struct Space {
     pub version: u32,
 }
 
+impl Space {
+    /// The first space, which is physical memory, page for page.
+    pub const ROOT: Space = Space {
+        number: 0,
+        version: 0,
+    };
+}
+
 /// An fpage with rights. The order 0 is that of nil, whatever the address.
 #[repr(C)]
 #[derive(Clone, Copy, Debug, Default, PartialEq, Eq)]
@@ -26,7 +49,7 @@ pub struct Fpage {
     pub address: u64,
     /// The place has 2^order bytes: 12 to 48, or 0 for nil.
     pub order: u32,
-    /// The rights: 4 to read, 2 to write, 1 to execute, added up. Of a receive window they are not
+    /// The rights: [`READ`], [`WRITE`] and [`EXECUTE`], added up. Of a receive window they are not
     /// looked at.
     pub rights: u32,
 }
@@ -36,7 +59,7 @@ pub struct Fpage {
 #[repr(C)]
 #[derive(Clone, Copy, Debug, Default, PartialEq, Eq)]
 pub struct Operation {
-    /// 1 a record, 2 a revocation, 3 the end of a space.
+    /// [`RECORD`], [`REVOCATION`], or [`END`] for the end of a space.
     pub kind: u32,
     /// The rights of a record, or those that are taken.
     pub rights: u32,

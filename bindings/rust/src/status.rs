@@ -144,6 +144,8 @@ impl Status {
     }
 }
 
+impl core::error::Error for Status {}
+
 impl fmt::Display for Status {
     fn fmt(&self, f: &mut fmt::Formatter<'_>) -> fmt::Result {
         f.write_str(self.name())

@@ -3,13 +3,11 @@
 mod heap;
 
 use mapdb::{
-    Fpage, IssueError, Operation, Records, Replica, RoomError, Row, Space, Status, TakeError,
+    Fpage, IssueError, Operation, READ, RECORD, Records, Replica, RoomError, Row, Space, Status,
+    TakeError, WRITE,
 };
 
-const ROOT: Space = Space {
-    number: 0,
-    version: 0,
-};
+const ROOT: Space = Space::ROOT;
 const ONE: Space = Space {
     number: 1,
     version: 0,
@@ -20,7 +18,7 @@ fn mapped() -> Replica {
     let page = Fpage {
         address: 0x10000,
         order: 14,
-        rights: 6,
+        rights: READ | WRITE,
     };
     let window = Fpage {
         address: 0x40000,
@@ -36,10 +34,10 @@ fn mapped() -> Replica {
 fn maps_and_serves() {
     let mut replica = mapped();
     let found = replica.served(ONE, 0x4b).unwrap().unwrap();
-    assert_eq!((found.frame, found.rights), (0x13, 6));
+    assert_eq!((found.frame, found.rights), (0x13, READ | WRITE));
     assert_eq!(replica.served(ONE, 0x4c), Ok(None));
     assert_eq!(replica.unmap_word(ROOT, 0x100c2, false), Ok(1));
-    assert_eq!(replica.served(ONE, 0x48).unwrap().unwrap().rights, 4);
+    assert_eq!(replica.served(ONE, 0x48).unwrap().unwrap().rights, READ);
     assert_eq!(replica.counts(), (2, 2));
 }
 
@@ -53,6 +51,7 @@ fn carries_operations() {
         Err(RoomError::NoRoom { needed: 1 })
     );
     assert_eq!(replica.give_own(0, 1, &mut room), Ok(1));
+    assert_eq!(room[0].kind, RECORD);
     assert!(replica.covers(&mut other) && !other.covers(&mut replica));
     assert_eq!(other.take(&room[..1]), Ok(1));
     assert!(replica.same(&mut other));
@@ -89,6 +88,25 @@ fn ends_spaces() {
 }
 
 #[test]
+fn errors_tell_what_they_are() {
+    let told = |error: Box<dyn std::error::Error>| error.to_string();
+    assert_eq!(told(Status::Full.into()), "full");
+    assert_eq!(
+        told(IssueError::SpaceEnded(ONE).into()),
+        "space 1.0 has ended"
+    );
+    let refused = TakeError::Refused {
+        status: Status::BadKind,
+        place: 2,
+    };
+    assert_eq!(told(refused.into()), "refused: bad-kind");
+    assert_eq!(
+        told(RoomError::NoRoom { needed: 3 }.into()),
+        "there is no room for 3"
+    );
+}
+
+#[test]
 fn fills_page_tables() {
     let mut replica = mapped();
     let mut rows = [Row::default(); 2];
@@ -98,7 +116,7 @@ fn fills_page_tables() {
     );
     assert_eq!(replica.table(&mut rows), Ok(2));
     assert_eq!((rows[1].space, rows[1].page, rows[1].count), (ONE, 0x48, 4));
-    assert_eq!((rows[1].frame, rows[1].rights), (0x10, 6));
+    assert_eq!((rows[1].frame, rows[1].rights), (0x10, READ | WRITE));
 }
 
 #[test]
