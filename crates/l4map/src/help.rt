@@ -141,12 +141,14 @@ Words of a line:
   N, P, Q     decimal; processors count from 0
   S, R        a space: its number, decimal, or NUMBER.VERSION where the version is not 0; space 0
               stands for physical memory
+  NUMBER      the number of a space alone, decimal
   I, J, M     decimal; marks and messages count from 0
   BASE, ADDR  an address, in hexadecimal without a prefix
   FPAGE       ADDR/ORDER, the 2^ORDER bytes from ADDR on, with ORDER decimal; or `all`, or `nil`
   FIRST, SECOND, WINDOW
               a word of the kernel, in hexadecimal without a prefix
   SEND        FPAGE:RIGHTS, the rights as rwx with - for each one that is missing
+  TEXT        a snapshot, as save writes it behind `snapshot `, to the end of the line
 
 Example, where the window is larger than the fpage and the send base says where in it:
   $ printf 'processors 1\\nmap 0 0 10000/14:rw- 8000 1 40000/16\\nrights 0 1 48000\\n' | l4map run

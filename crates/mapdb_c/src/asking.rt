@@ -102,7 +102,7 @@ fn paged(space: RawSpace, page: u64) -> Result<Space, Status>
 }
 
 /// One past the last page up to which what a page of a space is served from goes on from this page:
-/// none at all of them, or frames that rise by one with each page, with equal rights.
+/// nothing at any of them, or frames that rise by one with each page, with equal rights.
 #[unsafe(no_mangle)]
 pub extern "C" fn mapdb_run_end(
     alloc: Global,

@@ -16,6 +16,8 @@ use std::marker::Model;
 use std::mem::replace;
 use std::ptr::null_mut;
 
+/// What C has of a copy: one pointer, null where there is none. What it points at is a box that it
+/// owns.
 #[repr(C)]
 pub struct Handle {
     at: *mut u8,

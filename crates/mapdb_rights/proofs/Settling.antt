@@ -4,4 +4,4 @@ pub mod Followed
 pub mod HeldRecords
 pub mod Pendings
 pub mod Settlement
-pub mod Stirring
+pub mod Unsettling

@@ -35,19 +35,19 @@ SettledIsExact = (S : State) (cached : Cached)
     → ((id : RecordId) (page : ℕ) → IsSettled S cached id page) → AreRights S cached
 
 -- the pages of a record where an operation may change what follows from its parent
-abbrev pub Stirs : State → Op → RecordId → ℕ → Type 0
-Stirs S (Born r) id page = (same_id r.id id ≡ true) × (holds r.place page ≡ true)
-Stirs S (Cut cut) id page = (same_id cut.target id ≡ true) × (holds cut.part page ≡ true)
-Stirs S (Closed space) id page =
+abbrev pub Unsettles : State → Op → RecordId → ℕ → Type 0
+Unsettles S (Born r) id page = (same_id r.id id ≡ true) × (holds r.place page ≡ true)
+Unsettles S (Cut cut) id page = (same_id cut.target id ≡ true) × (holds cut.part page ≡ true)
+Unsettles S (Closed space) id page =
     (r : Record) × (S.record_at id ≡ Some r) × (same_space space r.space ≡ true)
     × (is_empty (rights_at S id page) ≡ false)
 
 -- Cached rights that stood for the state follow, after an operation, from the parents' but where it
--- stirs.
-abbrev pub OperationsStir : Type 0
-OperationsStir =
+-- unsettles.
+abbrev pub OperationsUnsettle : Type 0
+OperationsUnsettle =
     (S : State) (op : Op) (cached : Cached) → AreRights S cached
-    → (id : RecordId) (page : ℕ) → IsSettled (join S (said op)) cached id page ⊎ Stirs S op id page
+    → (id : RecordId) (page : ℕ) → IsSettled (join S (said op)) cached id page ⊎ Unsettles S op id page
 
 -- over these pages of the record the rights are taken anew from the parent's, elsewhere they stay
 abbrev pub IsTakenAnew : State → Cached → RecordId → ℕ → ℕ → Cached → Type 0
@@ -65,8 +65,8 @@ HasOtherSource S cached new id page =
 
 -- What followed from the parents' before still does, and what is taken anew does, but where a
 -- source page has other rights.
-abbrev pub SettlingStirsChildren : Type 0
-SettlingStirsChildren =
+abbrev pub SettlingUnsettlesChildren : Type 0
+SettlingUnsettlesChildren =
     (S : State) (cached new : Cached) (id : RecordId) (first end : ℕ)
     → IsTakenAnew S cached id first end new
     → (other : RecordId) (page : ℕ) → IsSettled S cached other page

@@ -1,4 +1,4 @@
-//! What outside examples say of clusters.
+//! Clusters: every order of delivery, things that are missing, and great sizes.
 
 use crate::commands::{end, map, rights, space, unmap};
 use crate::orders::ORDERS;

@@ -1,4 +1,4 @@
-//! What outside examples say of tables. Both builds are asked, and events are made before copies:
+//! Tables of many spaces and of all pages. Both builds are asked, and events are made before copies:
 //! tests are short, since a test with many borrows is long to prove.
 
 use crate::commands::{place, space};

@@ -18,7 +18,7 @@ use Rattle.mapdb_lists.specs.Changes.{Cached, covers}
 use Rattle.mapdb_rights.specs.Right.{allows, has_right, reaches, record_right, right_by, rights_at, source_page}
 use Rattle.mapdb_rights.proofs.Rights.Steps.{earlier, has_right-step}
 use Rattle.mapdb_rights.proofs.Rights.Walk.{same_rights as from_each_right}
-use Rattle.mapdb_rights.specs.Caching.{AreRights, HasOtherSource, IsSettled, SettledIsExact, SettlingStirsChildren, rights_from}
+use Rattle.mapdb_rights.specs.Caching.{AreRights, HasOtherSource, IsSettled, SettledIsExact, SettlingUnsettlesChildren, rights_from}
 
 pub includes_where : (f : Right → Bool) (right : Right) → includes (rights_where f) right ≡ f right
 includes_where f Read = refl
@@ -106,10 +106,10 @@ module _ (S : State) (cached new : Cached) (id : RecordId) (page : ℕ) where
   pub follows : Follows
   follows = follows_of (S.record_at id) refl
 
-pub settling_stirs_children : SettlingStirsChildren
-settling_stirs_children S cached new id first end taken other page before =
+pub settling_unsettles_children : SettlingUnsettlesChildren
+settling_unsettles_children S cached new id first end taken other page before =
     elim (follows S cached new other page) [
-      | inr stirred ↦ inr stirred
+      | inr unsettled ↦ inr unsettled
       | inl same ↦ elim (cases_Bool (covers id first end other page)) [
         | inl inside ↦ inl (taken other page ∙ cond-true (covers id first end other page) (rights_from cached S other page) (cached other page) inside ∙ sym same)
         | inr outside ↦ elim before [

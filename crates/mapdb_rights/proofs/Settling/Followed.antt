@@ -19,7 +19,7 @@ use Rattle.mapdb_lists.specs.declared.places.Owner.TheVariants as owners
 use Rattle.mapdb_lists.proofs.Lists.ListedOrder.{owner_is}
 use Rattle.mapdb_lists.specs.declared.places.Places.{Places}
 use Rattle.mapdb_rights.specs.declared.index.stale.Stale.{Stale}
-use Rattle.mapdb_rights.specs.Caching.{AreRights, IsSettled, Stirs}
+use Rattle.mapdb_rights.specs.Caching.{AreRights, IsSettled, Unsettles}
 use Rattle.mapdb_rights.specs.CachedFrames.{AreFrames}
 use Rattle.mapdb_rights.specs.Following.{AreListed}
 use Rattle.mapdb_rights.specs.HeldPlaces.{AreOfHeld, IsListed, place_of, source_of}
@@ -27,14 +27,14 @@ use Rattle.mapdb_rights.specs.Pending.{AreSettledBut, IsPending}
 use Rattle.mapdb_rights.specs.PageRights.{is_record_into}
 use Rattle.std.proofs.lemmas.Bool.{false≢true}
 use Rattle.mapdb_rights.proofs.Rights.FramesFrom.{frames_later}
-use Rattle.mapdb_rights.proofs.Settling.Stirring.{operations_stir}
+use Rattle.mapdb_rights.proofs.Settling.Unsettling.{operations_unsettle}
 
 pub left_by_op : (S before : State) (op : Op) (cached : Cached) (stack : List Stale) → S ≡ join before (said op) → AreRights before cached
-    → ((id : RecordId) (page : ℕ) → Stirs before op id page → IsPending stack id page) → AreSettledBut S cached stack
-left_by_op S before op cached stack is are stirred id page =
-    elim (operations_stir before op cached are id page) [
+    → ((id : RecordId) (page : ℕ) → Unsettles before op id page → IsPending stack id page) → AreSettledBut S cached stack
+left_by_op S before op cached stack is are unsettled id page =
+    elim (operations_unsettle before op cached are id page) [
       | inl settled ↦ inl (subst (λ (T : State). IsSettled T cached id page) (sym is) settled)
-      | inr stirs ↦ inr (stirred id page stirs)
+      | inr unsettles ↦ inr (unsettled id page unsettles)
     ]
 
 -- frames stay after an operation

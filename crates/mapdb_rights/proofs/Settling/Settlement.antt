@@ -20,7 +20,7 @@ use Rattle.mapdb_rights.specs.declared.index.stale.Stale.{Stale}
 use Rattle.mapdb_rights.specs.Caching.{IsSettled, IsTakenAnew, rights_from}
 use Rattle.mapdb_rights.specs.Pending.{AreSettledBut, IsPending, share, weight, worth}
 use Rattle.mapdb_rights.proofs.Settling.Pendings.{pending_either, weight-last}
-use Rattle.mapdb_rights.proofs.Rights.Settled.{settling_stirs_children}
+use Rattle.mapdb_rights.proofs.Rights.Settled.{settling_unsettles_children}
 
 -- ---- which pages are covered
 
@@ -111,9 +111,9 @@ module _ (S : State) (old new : Cached) (id : RecordId) (first end : ℕ) (right
         → ((other : RecordId) (r : Record) → S.record_at other ≡ Some r → r.parent ≡ id → (page : ℕ) → holds r.place page ≡ true → first ≤ source_page r page → source_page r page < end → IsPending stack other page)
         → (other : RecordId) (page : ℕ) → IsSettled S old other page ⊎ (covers id first end other page ≡ true) → IsSettled S new other page ⊎ IsPending stack other page
     settled_after stack pushed other page before =
-        elim (settling_stirs_children S old new id first end taken other page before) [
+        elim (settling_unsettles_children S old new id first end taken other page before) [
           | inl settled ↦ inl settled
-          | inr stirred ↦ inr (child_pending stirred.0 stirred.1 stirred.2 stirred.3)
+          | inr unsettled ↦ inr (child_pending unsettled.0 unsettled.1 unsettled.2 unsettled.3)
         ]
       where
         child_pending : (r : Record) → S.record_at other ≡ Some r → reaches other r page ≡ true → same_rights (new r.parent (source_page r page)) (old r.parent (source_page r page)) ≡ false → IsPending stack other page

@@ -26,15 +26,15 @@ settle-requires-clause-settled c =
     let S : State = state_of_facts c.args.facts.now in
     left_by_op S c.requires.stood.before (Closed c.args.space) (cached_in c.args.changes.now.own.entries) c.push_space.new.stack.items
     c.requires.stood.is c.requires.stood.stood.rights
-    (λ id page stirs.
+    (λ id page unsettles.
     let there : AreListed S c.args.listed.now = listed_by_end S c.requires.stood.before c.args.space c.args.listed.now c.requires.stood.is c.requires.stood.stood.listed_there in
-    let r : Record = stirs.0 in
-    let held : S.record_at id ≡ Some r = ap (λ (T : State). T.record_at id) c.requires.stood.is ∙ first_alone (c.requires.stood.before.record_at id) ∙ stirs.1 in
+    let r : Record = unsettles.0 in
+    let held : S.record_at id ≡ Some r = ap (λ (T : State). T.record_at id) c.requires.stood.is ∙ first_alone (c.requires.stood.before.record_at id) ∙ unsettles.1 in
     let named = there.named id r held in
     let own : S.record_at r.id ≡ Some r = ap S.record_at named ∙ held in
     let other : is_root id ≡ false = subst (λ (o : RecordId). is_root o ≡ false) named (numbered_is_other r.id (there.formed r own).has_number) in
     subst (λ (o : RecordId). IsPending c.push_space.new.stack.items o page) named
-    (c.in_ok-push_space.ensures r own (there.places r own) stirs.2 page (rights_in_place c.requires.stood.before id r page other stirs.1 stirs.3)))
+    (c.in_ok-push_space.ensures r own (there.places r own) unsettles.2 page (rights_in_place c.requires.stood.before id r page other unsettles.1 unsettles.3)))
 
 pub settle-requires-clause-frames : goal.settle-requires-clause-frames
 settle-requires-clause-frames c = frames_by_op (state_of_facts c.args.facts.now) c.requires.stood.before (Closed c.args.space) c.args.changes.now.own.entries c.requires.stood.is c.requires.stood.stood.frames

@@ -32,9 +32,9 @@ pub settle-requires-clause-settled : goal.settle-requires-clause-settled
 settle-requires-clause-settled c =
     left_by_op (state_of_facts c.args.facts.now) c.requires.stood.before (Born c.args.mapping.now) (cached_in c.args.changes.now.own.entries) c.push.new.self.items
     c.requires.stood.is c.requires.stood.stood.rights
-    (λ id page stirs. rw c.in_ok-push.ensures.items (pending_last _ _ id page
+    (λ id page unsettles. rw c.in_ok-push.ensures.items (pending_last _ _ id page
     ((λ i. same_id c.args.mapping.now.id id && (nat_le (c.first_page.ensures.page i) page && nat_lt page (c.end.ensures.end i)))
-    ∙ and_from (same_id c.args.mapping.now.id id) (holds c.args.mapping.now.place page) stirs.0 stirs.1)))
+    ∙ and_from (same_id c.args.mapping.now.id id) (holds c.args.mapping.now.place page) unsettles.0 unsettles.1)))
 
 pub settle-requires-clause-frames : goal.settle-requires-clause-frames
 settle-requires-clause-frames c = frames_by_op (state_of_facts c.args.facts.now) c.requires.stood.before (Born c.args.mapping.now) c.args.changes.now.own.entries c.requires.stood.is c.requires.stood.stood.frames

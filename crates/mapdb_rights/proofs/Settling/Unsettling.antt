@@ -17,7 +17,7 @@ use Rattle.mapdb_facts.specs.declared.operations.Revocation.{Revocation}
 use Rattle.mapdb_lists.specs.Changes.{Cached}
 use Rattle.mapdb_rights.specs.Right.{allows, reaches, record_right, right_by, rights_at, source_page}
 use Rattle.mapdb_rights.proofs.Rights.Walk.{same_rights as from_each_right}
-use Rattle.mapdb_rights.specs.Caching.{AreRights, IsSettled, OperationsStir, Stirs}
+use Rattle.mapdb_rights.specs.Caching.{AreRights, IsSettled, OperationsUnsettle, Unsettles}
 use Rattle.mapdb_rights.proofs.Rights.Settled.{exact_is_settled, tests}
 
 or_false : (b : Bool) → (b || false) ≡ b
@@ -111,22 +111,22 @@ module _ (S : State) (cached : Cached) (are : AreRights S cached) (r : Record) (
       (and_left (reaches id r page) (allows Later id r page right) (and_left (holds r.place page) (nat_lt r.parent.number id.number) out))
       ∙ sym (ap (λ o. record_right (tests cached) S id o page right) none)))
 
-  abbrev BornStirs : Type 0
-  BornStirs = IsSettled Later cached id page ⊎ Stirs S (Born r) id page
+  abbrev BornUnsettles : Type 0
+  BornUnsettles = IsSettled Later cached id page ⊎ Unsettles S (Born r) id page
 
-  born_new : S.record_at id ≡ None → same_id r.id id ≡ true → BornStirs
+  born_new : S.record_at id ≡ None → same_id r.id id ≡ true → BornUnsettles
   born_new none named =
       elim (cases_Bool (holds r.place page)) [
         | inl inside ↦ inr (named, inside)
         | inr out ↦ inl (born_outside none named out)
       ]
 
-  born_named : (o : Option Record) → S.record_at id ≡ o → same_id r.id id ≡ true → BornStirs
+  born_named : (o : Option Record) → S.record_at id ≡ o → same_id r.id id ≡ true → BornUnsettles
   born_named None none named = born_new none named
   born_named (Some s) held named = inl (born_again s held)
 
-  pub born_stirs : BornStirs
-  born_stirs =
+  pub born_unsettles : BornUnsettles
+  born_unsettles =
       elim (cases_Bool (same_id r.id id)) [
         | inl named ↦ born_named (S.record_at id) refl named
         | inr other ↦ inl (born_apart other)
@@ -141,8 +141,8 @@ module _ (S : State) (cached : Cached) (are : AreRights S cached) (cut : Revocat
       (ap (λ (t : Bool). S.is_cut id page right || t) (apart right) ∙ or_false (S.is_cut id page right))
       (first_alone (S.record_at id)) (λ s held. or_false (S.is_ended s.space)))
 
-  pub cut_stirs : IsSettled (join S (said (Cut cut))) cached id page ⊎ Stirs S (Cut cut) id page
-  cut_stirs =
+  pub cut_unsettles : IsSettled (join S (said (Cut cut))) cached id page ⊎ Unsettles S (Cut cut) id page
+  cut_unsettles =
       elim (cases_Bool (same_id cut.target id)) [
         | inr other ↦ inl (cut_apart (λ right. and_left (same_id cut.target id && holds cut.part page) (includes cut.rights right) (and_left (same_id cut.target id) (holds cut.part page) other)))
         | inl named ↦ elim (cases_Bool (holds cut.part page)) [
@@ -177,17 +177,17 @@ module _ (S : State) (cached : Cached) (are : AreRights S cached) (space : Space
       (and_right (reaches id r page) (allows Ended id r page right)
       (and_right (includes r.rights right && not (Ended.is_cut id page right)) (not (Ended.is_ended r.space)) (ap not (ap (λ (t : Bool). S.is_ended r.space || t) same ∙ or_true (S.is_ended r.space)))))))
 
-  abbrev EndStirs : Type 0
-  EndStirs = IsSettled Ended cached id page ⊎ Stirs S (Closed space) id page
+  abbrev EndUnsettles : Type 0
+  EndUnsettles = IsSettled Ended cached id page ⊎ Unsettles S (Closed space) id page
 
-  end_of : (r : Record) → S.record_at id ≡ Some r → same_space space r.space ≡ true → is_root id ≡ false → EndStirs
+  end_of : (r : Record) → S.record_at id ≡ Some r → same_space space r.space ≡ true → is_root id ≡ false → EndUnsettles
   end_of r held same other =
       elim (cases_Bool (is_empty (rights_at S id page))) [
         | inl none ↦ inl (end_none r other held same none)
         | inr some ↦ inr (r, held, same, some)
       ]
 
-  end_held : (r : Record) → S.record_at id ≡ Some r → EndStirs
+  end_held : (r : Record) → S.record_at id ≡ Some r → EndUnsettles
   end_held r held =
       elim (cases_Bool (same_space space r.space)) [
         | inr other ↦ inl (end_apart (λ s again. ap (λ (o : Record). same_space space o.space) (some_same s r (sym again ∙ held)) ∙ other))
@@ -200,17 +200,17 @@ module _ (S : State) (cached : Cached) (are : AreRights S cached) (space : Space
       some_same : (r s : Record) → Some r ≡ Some s → r ≡ s
       some_same r s e = cc
 
-  end_by : (o : Option Record) → S.record_at id ≡ o → EndStirs
+  end_by : (o : Option Record) → S.record_at id ≡ o → EndUnsettles
   end_by None none = inl (end_apart (λ r held. absurd (none_some r (sym none ∙ held))))
     where
       none_some : (r : Record) → None ≡ Some r → ⊥
       none_some r e = cc
   end_by (Some r) held = end_held r held
 
-  pub end_stirs : EndStirs
-  end_stirs = end_by (S.record_at id) refl
+  pub end_unsettles : EndUnsettles
+  end_unsettles = end_by (S.record_at id) refl
 
-pub operations_stir : OperationsStir
-operations_stir S (Born r) cached are id page = born_stirs S cached are r id page
-operations_stir S (Cut cut) cached are id page = cut_stirs S cached are cut id page
-operations_stir S (Closed space) cached are id page = end_stirs S cached are space id page
+pub operations_unsettle : OperationsUnsettle
+operations_unsettle S (Born r) cached are id page = born_unsettles S cached are r id page
+operations_unsettle S (Cut cut) cached are id page = cut_unsettles S cached are cut id page
+operations_unsettle S (Closed space) cached are id page = end_unsettles S cached are space id page
