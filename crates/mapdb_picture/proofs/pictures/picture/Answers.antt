@@ -8,6 +8,6 @@ pub returns : goal.returns
 returns c =
     IfOk-weaker c.graph_of.result _ _
     (λ s h. picture_is c.facts-facts.result.now c.args.copy.now.ops c.ops-ops.result.now _ _ _ _ (string_bytes s)
-    c.facts-facts.ensures c.ops-ops.ensures (c.as_str.ensures.value ∙ c.in_ok-first.ensures)
+    c.facts-facts.ensures c.ops-ops.ensures.ops (c.as_str.ensures.value ∙ c.in_ok-first.ensures)
     (c.as_str-2.ensures.value ∙ c.in_ok-records.ensures) (c.as_str-3.ensures.value ∙ c.in_ok-absent.ensures)
     (c.as_str-4.ensures.value ∙ c.in_ok-ended.ensures) h) c.graph_of.ensures
