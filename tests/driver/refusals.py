@@ -75,23 +75,39 @@ def run_series(program: Program, interposer: Interposer, series: Series) -> list
 def keeps_replies(script: Script, fronts: list[bytes]) -> Optional[Met]:
     """Whether what was replied before memory ran out was written. It ran out later and later, so
     the fronts of the output are whole lines, none shorter than the one before, and there is one
-    behind each reply but the last. None of a script that may reply more than a line to a line, or
-    none."""
-    replies = one_line_replies(script)
-    if not fronts or replies is None:
+    before each reply that takes memory. None of a script that may reply more than a line to a line,
+    or none."""
+    wanted = fronts_before(script)
+    if not fronts or wanted is None:
         return None
     lengths = [len(front) for front in fronts]
     ends = {0} | {place + 1 for place, byte in enumerate(script.output) if byte == ord("\n")}
-    holds = lengths == sorted(lengths) and set(lengths) <= ends and len(set(lengths)) >= replies
+    holds = lengths == sorted(lengths) and wanted <= set(lengths) <= ends
     return Met(holds, "%s, the replies before" % script.name, str(lengths))
 
 
-def one_line_replies(script: Script) -> Optional[int]:
-    """How many replies a script has, where each line but the first is replied one line."""
+def fronts_before(script: Script) -> Optional[set[int]]:
+    """How long the output is before each reply that takes memory, where each line but the first is
+    replied one line."""
     lines = [line.split()[:1] for line in script.source.splitlines()]
     asked = [words[0] for words in lines if words and not words[0].startswith(b"#")][1:]
-    count = script.output.count(b"\n")
-    return count if script.arguments == ["run"] and len(asked) == count else None
+    replies = script.output.splitlines(keepends=True)
+    if script.arguments != ["run"] or len(asked) != len(replies):
+        return None
+    fronts, length = set(), 0
+    for reply in replies:
+        if takes_memory(reply):
+            fronts.add(length)
+        length += len(reply)
+    return fronts
+
+
+def takes_memory(reply: bytes) -> bool:
+    """Whether a line that is replied this asks for memory, whatever came before: for the text of a
+    snapshot, for the list of a page's rights, or for the operations of a message."""
+    if reply.startswith(b"message "):
+        return not reply.endswith(b" 0\n")
+    return reply.startswith((b"snapshot ", b"rights ")) and reply != b"rights none\n"
 
 
 def all_series(short: bool) -> list[Series]:

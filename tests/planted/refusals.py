@@ -5,7 +5,7 @@ from driver.program import NO_MEMORY, Outcome
 from driver.refusals import Series, refuse_all, run_refusals
 from driver.tally import Tally
 from planted.changed import Asked, Bare, Change, Changed, longer, where
-from planted.faults import ONE_END, ONE_THREAD, TWO_ENDS, Fault, Scene
+from planted.faults import END_AND_SAVE, ONE_END, ONE_THREAD, Fault, Scene
 
 
 def is_refused(asked: Asked, found: Outcome) -> bool:
@@ -21,7 +21,7 @@ def is_run_fault(asked: Asked, found: Outcome) -> bool:
 
 
 ALLOCATION = Series(ONE_END, "allocation", False)
-REPLIES = Series(TWO_ENDS, "allocation", False)
+REPLIES = Series(END_AND_SAVE, "allocation", False)
 IN_THREADS = Series(ONE_THREAD, "allocation", False)
 THREAD = Series(ONE_THREAD, "thread", False)
 
@@ -41,9 +41,9 @@ CHANGES = [
      ALLOCATION, where(is_refused, status=None)),
     ("an output that is no front of the whole", "one_end, refused .*status=4, .*no more",
      ALLOCATION, longer(is_refused)),
-    ("replies that are lost where memory runs out", "two_ends, the replies before",
+    ("replies that are lost where memory runs out", "end_and_save, the replies before",
      REPLIES, where(is_refused, output=b"")),
-    ("a reply that is cut where memory runs out", "two_ends, the replies before",
+    ("a reply that is cut where memory runs out", "end_and_save, the replies before",
      REPLIES, where(is_refused, output=b"e")),
     ("a whole run that is another", "one_end, refused .*status=0, .*no more",
      ALLOCATION, longer(is_whole)),
