@@ -27,14 +27,15 @@ CHUNK = 16
 
 class Case(NamedTuple):
     """A case: the numbers of parts that can stand behind a refusal, what the same call comes to
-    where there is memory again, what is told where there never is any, and whether threads are
-    started."""
+    where there is memory again, what is told where there never is any, whether threads are started,
+    and whether it is several commands at a copy."""
 
     name: str
     parts: range
     again: str = "whole"
     without: str = "unmade"
     in_threads: bool = False
+    in_commands: bool = False
 
 
 # An Unmap of 6 revocations, a Map of 4 records, a batch of 13 operations, a command whose record
@@ -46,10 +47,10 @@ CASES = [
     Case("take", range(13)),
     Case("index", range(1, 2)),
     Case("tree", range(5), again="failed", without="refused 0, again failed"),
-    Case("cluster", range(10)),
-    Case("book", range(9)),
-    Case("node", range(9)),
-    Case("copy handed back", range(9)),
+    Case("cluster", range(10), in_commands=True),
+    Case("book", range(9), in_commands=True),
+    Case("node", range(9), in_commands=True),
+    Case("copy handed back", range(9), in_commands=True),
     Case("table", range(1)),
     Case("table in threads", range(1), in_threads=True),
     Case("exchange", range(1), in_threads=True),
@@ -187,8 +188,11 @@ def first_parts(run: Run) -> list[tuple[int, int]]:
 
 
 def check_order(tally: Tally, runs: list[Run]) -> None:
-    """The later the refusal, the more stands."""
-    found = [(parts, run) for run in runs for parts in first_parts(run)]
+    """The later the refusal, the more stands. Not so of several commands where all behind is
+    refused too: where the refusal costs the copy its index, a command may do without memory that
+    takes some beside an index."""
+    found = [(parts, run) for run in runs for parts in first_parts(run)
+             if not (run.series.is_onward and CASES[parts[0]].in_commands)]
     for (parts, run), (later, other) in itertools.pairwise(found):
         told = "behind %s there is %s, and behind %s %s" % (
             name_of(run), described(parts), name_of(other), described(later))
