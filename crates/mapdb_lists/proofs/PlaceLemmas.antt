@@ -6,3 +6,4 @@ pub mod ByOwners
 pub mod PlaceLists
 pub mod PlaceOrder
 pub mod OwnSweeps
+pub mod LessPlaces

@@ -1,6 +1,6 @@
 -- Whose places are listed, which of them meet pages, and which records are held under their names.
 use Rattle.std.specs.Prelude.{◌≡◌, ℕ, Bool, true, false, List, [], ◌∷◌, ◌++◌, length, map, Option}
-use Rattle.std.specs.Prelude.{Some, None, count_by, ◌||◌, if◌then◌else◌}
+use Rattle.std.specs.Prelude.{Some, None, count_by, ◌&&◌, ◌||◌, if◌then◌else◌, not}
 use Rattle.std.specs.BTreeMap.{is_at}
 use Rattle.std.specs.BTreeMap.Range.{IsFromStart, IsLeBy}
 use Rattle.std.specs.Map.{lookup}
@@ -56,6 +56,13 @@ pub record IsPut (K : Type 0) (same : K → K → Bool) (old new : List (K × Ow
       ≡ (if same key q then Some own else lookup (same q) old)
   pub put : (k : OwnPlace) → stands (own_list own) k
       ≡ (is_at (place_cmp place) k || stands (places_in (lookup (same key) old)) k)
+
+-- one key no longer has the place, where it had it, and each other key has what it had
+pub record IsRemoved (K : Type 0) (same : K → K → Bool) (old new : List (K × OwnPlaces)) (key : K)
+    (place : OwnPlace) : Type 0 where
+  pub removed : (k : OwnPlace) → stands (places_in (lookup (same key) new)) k
+      ≡ (not (is_at (place_cmp place) k) && stands (places_in (lookup (same key) old)) k)
+  pub others : (q : K) → same key q ≡ false → lookup (same q) new ≡ lookup (same q) old
 
 -- the places of an owner among those of all
 abbrev pub places_among : List (Owner × OwnPlaces) → Owner → List OwnPlace

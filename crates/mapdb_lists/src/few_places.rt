@@ -1,12 +1,16 @@
-//! The least of a few places, found by looking at each.
+//! A few places as they came: the least of them is found by looking at each.
 
-ghost use Rattle.std.specs.Prelude.{◌≡◌};
+ghost use Rattle.std.specs.Prelude.{◌≡◌, ◌&&◌, not};
+ghost use Rattle.std.specs.BTreeMap.{is_at};
 ghost use Rattle.std.specs.BTreeMap.Range.{is_from_start};
 ghost use Rattle.mapdb_lists.specs.OwnPlaces.{AreAligned, IsAlignedPlace, IsFirstPlaceWhere};
 ghost use Rattle.mapdb_lists.specs.OwnPlaces.{IsNextPlace, IsSweptOn, few_ahead, is_beyond};
 ghost use Rattle.mapdb_lists.specs.OwnPlaces.{is_next, lesser_place, lesser_where, place_cmp};
+ghost use Rattle.mapdb_lists.specs.OwnPlaces.{stands};
+ghost use Rattle.mapdb_lists.specs.declared.own_places.OwnPlace.{OwnPlace};
 
 use crate::own_places::{NextPlace, OwnPlace, Sweep};
+use smallvec::SmallVec;
 use std::ops::Bound;
 
 /// The lesser of two places, where there is another.
@@ -123,4 +127,12 @@ pub(crate) fn next_of_few(
         }
     }
     None
+}
+
+/// Takes a place out of a few, as often as it stands among them. It takes no memory.
+pub(crate) fn few_remove(places: &mut SmallVec<OwnPlace, 2>, place: OwnPlace)
+    ensures { (k : OwnPlace) → stands places.new.items k
+        ≡ (not (is_at (place_cmp place) k) && stands places.old.items k) }
+{
+    places.retain(|other| *other != place);
 }

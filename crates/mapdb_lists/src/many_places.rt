@@ -18,8 +18,8 @@ pub struct ManyPlaces {
 }
 
 impl ManyPlaces {
-    ghost use Rattle.std.specs.Prelude.{◌≡◌, ◌<◌, ◌||◌, ℕ, IfSome, OnOk, [], false, None, Some};
-    ghost use Rattle.std.specs.Prelude.{option_map, true};
+    ghost use Rattle.std.specs.Prelude.{◌≡◌, ◌<◌, ◌&&◌, ◌||◌, ℕ, IfSome, OnOk, [], false, None};
+    ghost use Rattle.std.specs.Prelude.{Some, not, option_map, true};
     ghost use Rattle.std.specs.BTreeMap.{is_at};
     ghost use Rattle.std.specs.BTreeMap.Range.{is_from_start};
     ghost use Rattle.std.specs.declared.ops.Bound.TheVariants.{Excluded, Included};
@@ -46,6 +46,15 @@ impl ManyPlaces {
     {
         self.orders.add(place.order);
         self.places.insert(alloc, place)
+    }
+
+    /// Takes a place out, where it stands here. It takes no memory. The orders stay: one that no
+    /// place has any more costs a look, and misses none.
+    pub(crate) fn remove(&mut self, place: OwnPlace)
+        ensures { (k : OwnPlace) → stands self.new.places k
+            ≡ (not (is_at (place_cmp place) k) && stands self.old.places k) }
+    {
+        self.places.remove(place);
     }
 
     /// The least place from one on.

@@ -1,7 +1,7 @@
 //! The places of one owner: a few as they came, many in their order.
 
-ghost use Rattle.std.specs.Prelude.{◌≡◌, ◌≤◌, ◌<◌, ◌-◌, ◌^◌, ◌||◌, IfOk, IfSome, OnOk, []};
-ghost use Rattle.std.specs.Prelude.{option_map};
+ghost use Rattle.std.specs.Prelude.{◌≡◌, ◌≤◌, ◌<◌, ◌-◌, ◌^◌, ◌&&◌, ◌||◌, IfOk, IfSome, OnOk, []};
+ghost use Rattle.std.specs.Prelude.{not, option_map};
 ghost use Rattle.std.specs.BTreeMap.{is_at};
 ghost use Rattle.std.specs.BTreeMap.Range.{is_from_start};
 ghost use Rattle.std.specs.Ordering.{is_lt};
@@ -11,7 +11,7 @@ ghost use Rattle.mapdb_lists.specs.OwnPlaces.{IsNextPlace, found_place, IsSweptO
 ghost use Rattle.mapdb_lists.specs.OwnPlaces.{many_ahead, own_list, own_meets, place_cmp, stands};
 ghost use Rattle.mapdb_lists.specs.declared.own_places.OwnPlace.{OwnPlace};
 
-use crate::few_places::{least_inside, least_meeting, next_of_few};
+use crate::few_places::{few_remove, least_inside, least_meeting, next_of_few};
 use crate::limits::FEW_PLACES;
 use crate::many_places::ManyPlaces;
 use mapdb_facts::RecordId;
@@ -274,5 +274,16 @@ impl OwnPlaces {
     {
         self.widen(alloc)?;
         self.put(alloc, place)
+    }
+
+    /// Takes a place out, where it stands here. It takes no memory, and many places stay many.
+    pub(crate) fn remove(&mut self, place: OwnPlace)
+        ensures { (k : OwnPlace) → stands (own_list self.new) k
+            ≡ (not (is_at (place_cmp place) k) && stands (own_list self.old) k) }
+    {
+        match self {
+            OwnPlaces::Few(list) => few_remove(list, place),
+            OwnPlaces::Many(many) => many.remove(place),
+        }
     }
 }

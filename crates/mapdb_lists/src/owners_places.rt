@@ -6,7 +6,7 @@ ghost use Rattle.std.specs.Option.{option_copied};
 ghost use Rattle.mapdb_facts.specs.Names.{same_id, same_space};
 ghost use Rattle.mapdb_facts.specs.declared.names.RecordId.{RecordId};
 ghost use Rattle.mapdb_facts.specs.declared.names.Space.{Space};
-ghost use Rattle.mapdb_lists.specs.Listing.{IsPut};
+ghost use Rattle.mapdb_lists.specs.Listing.{IsPut, IsRemoved};
 ghost use Rattle.mapdb_lists.specs.Owners.{same_owner};
 ghost use Rattle.mapdb_lists.specs.declared.places.Owner.{Owner};
 
@@ -71,6 +71,24 @@ fn put_for_space(
     Ok(())
 }
 
+/// Takes a place out of those of a record, where it has places. It takes no memory.
+fn remove_for_record(records: &mut ByName<OwnPlaces>, id: RecordId, place: OwnPlace)
+    ensures { IsRemoved RecordId same_id records.old.entries records.new.entries id place }
+{
+    if let Some(at) = records.names.place(id) {
+        records.values[at].remove(place);
+    }
+}
+
+/// Takes a place out of those of a space, where it has places. It takes no memory.
+fn remove_for_space(spaces: &mut HashMap<Space, OwnPlaces>, space: Space, place: OwnPlace)
+    ensures { IsRemoved Space same_space spaces.old.entries spaces.new.entries space place }
+{
+    if let Some(own) = spaces.get_mut(&space) {
+        own.remove(place);
+    }
+}
+
 impl OwnersPlaces {
     /// No places. It takes no memory.
     pub(crate) fn new(alloc: Global) -> OwnersPlaces
@@ -101,6 +119,17 @@ impl OwnersPlaces {
         match owner {
             Owner::Record(id) => put_for_record(&mut self.records, self.alloc, id, place),
             Owner::Space(space) => put_for_space(&mut self.spaces, self.alloc, space, place),
+        }
+    }
+
+    /// Takes a place out of those of an owner, where it has places. It takes no memory: an owner
+    /// that has lost all of them stays, with none.
+    pub(crate) fn remove(&mut self, owner: Owner, place: OwnPlace)
+        ensures { IsRemoved Owner same_owner self.old.entries self.new.entries owner place }
+    {
+        match owner {
+            Owner::Record(id) => remove_for_record(&mut self.records, id, place),
+            Owner::Space(space) => remove_for_space(&mut self.spaces, space, place),
         }
     }
 }

@@ -1,7 +1,7 @@
 //! Places of an owner in a list in ascending order, found by halving it.
 
-ghost use Rattle.std.specs.Prelude.{◌≡◌, ◌≤◌, ◌<◌, ◌||◌, IfNone, IfSome, OnOk, OnErr, length};
-ghost use Rattle.std.specs.Prelude.{option_map, false, get_or, true};
+ghost use Rattle.std.specs.Prelude.{◌≡◌, ◌≤◌, ◌<◌, ◌&&◌, ◌||◌, IfNone, IfSome, OnOk, OnErr, length};
+ghost use Rattle.std.specs.Prelude.{option_map, false, get_or, not, true};
 ghost use Rattle.std.specs.BTreeMap.{is_at};
 ghost use Rattle.std.specs.BTreeMap.Range.{is_from_start};
 ghost use Rattle.std.specs.List.Sorted.{IsPartitionPoint};
@@ -98,4 +98,17 @@ pub(crate) fn list_put(list: &mut Vec<OwnPlace>, place: OwnPlace) -> Result<(), 
     }
     list.insert(index, place)?;
     Ok(())
+}
+
+/// Takes a place out, where it stands in the list. It takes no memory.
+pub(crate) fn list_remove(list: &mut Vec<OwnPlace>, place: OwnPlace)
+    requires { Ascend list.old.items }
+    ensures ascends { Ascend list.new.items }
+    ensures removed { (k : OwnPlace) → stands list.new.items k
+        ≡ (not (is_at (place_cmp place) k) && stands list.old.items k) }
+{
+    let index = index_for(list.as_slice(), place);
+    if is_there(list.as_slice(), index, place) {
+        list.remove(index);
+    }
 }

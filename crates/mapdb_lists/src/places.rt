@@ -1,7 +1,7 @@
 //! The places of records, by owner: a space has those of its records, a record those that its
 //! children's pages come from. Beside them the records themselves, by name.
 
-ghost use Rattle.std.specs.Prelude.{◌≡◌, ◌||◌, false, IfSome, None, OnOk, option_map};
+ghost use Rattle.std.specs.Prelude.{◌≡◌, ◌&&◌, ◌||◌, false, IfSome, None, OnOk, not, option_map};
 ghost use Rattle.std.specs.BTreeMap.{is_at};
 ghost use Rattle.std.specs.Option.{option_copied};
 ghost use Rattle.std.specs.declared.ops.Bound.TheVariants.{Excluded, Included};
@@ -104,6 +104,15 @@ impl Places {
         ensures records { (id : RecordId) → held_record self.new id ≡ held_record self.old id }
     {
         self.own.put(entry.owner, entry.own_place())
+    }
+
+    /// Lets go of an entry, where it is listed; it takes no memory.
+    pub fn remove(&mut self, entry: Listed)
+        ensures listed { (e : Listed) → is_listed self.new e
+            ≡ (not (is_at (listed_cmp entry) e) && is_listed self.old e) }
+        ensures records { (id : RecordId) → held_record self.new id ≡ held_record self.old id }
+    {
+        self.own.remove(entry.owner, entry.own_place())
     }
 
     /// Holds one record more, under its name. An error where memory ran out.

@@ -1,6 +1,6 @@
 //! Places of an owner in ascending order: some in a list that is halved, more in a tree.
 
-ghost use Rattle.std.specs.Prelude.{◌≡◌, ◌||◌, IfOk, IfSome, OnOk, OnErr};
+ghost use Rattle.std.specs.Prelude.{◌≡◌, ◌&&◌, ◌||◌, IfOk, IfSome, OnOk, OnErr, not};
 ghost use Rattle.std.specs.BTreeMap.{is_at};
 ghost use Rattle.mapdb_lists.specs.Ascending.{IsInOrder, kept_places};
 ghost use Rattle.mapdb_lists.specs.OwnPlaces.{place_cmp, stands};
@@ -8,7 +8,7 @@ ghost use Rattle.mapdb_lists.specs.declared.own_places.OwnPlace.{OwnPlace};
 
 use crate::limits::SOME_PLACES;
 use crate::own_places::OwnPlace;
-use crate::place_lists::{list_above, list_from, list_put};
+use crate::place_lists::{list_above, list_from, list_put, list_remove};
 use crate::place_sets::{Spot, set_above, set_from};
 use std::alloc::{AllocError, Global};
 use std::collections::BTreeSet;
@@ -88,6 +88,27 @@ fn put(kept: &mut KeptPlaces, place: OwnPlace) -> Result<(), AllocError>
     }
 }
 
+/// Takes a place out of a tree, where it stands there. It takes no memory.
+fn tree_remove(tree: &mut BTreeSet<OwnPlace>, place: OwnPlace)
+    ensures { (k : OwnPlace) → stands tree.new.keys k
+        ≡ (not (is_at (place_cmp place) k) && stands tree.old.keys k) }
+{
+    tree.remove(&place);
+}
+
+/// Takes a place out where the places are kept now. It takes no memory, and a tree stays one.
+fn remove(kept: &mut KeptPlaces, place: OwnPlace)
+    requires { IsInOrder kept.old }
+    ensures order { IsInOrder kept.new }
+    ensures removed { (k : OwnPlace) → stands (kept_places kept.new) k
+        ≡ (not (is_at (place_cmp place) k) && stands (kept_places kept.old) k) }
+{
+    match kept {
+        KeptPlaces::Listed(list) => list_remove(list, place),
+        KeptPlaces::Tree(tree) => tree_remove(tree, place),
+    }
+}
+
 /// Places in ascending order.
 #[derive(Drop)]
 pub struct SortedPlaces {
@@ -107,7 +128,7 @@ impl Model for SortedPlaces {
 }
 
 impl SortedPlaces {
-    ghost use Rattle.std.specs.Prelude.{◌≡◌, ◌||◌, IfSome, OnErr, OnOk, [], option_map};
+    ghost use Rattle.std.specs.Prelude.{◌≡◌, ◌&&◌, ◌||◌, IfSome, OnErr, OnOk, [], not, option_map};
     ghost use Rattle.std.specs.BTreeMap.{is_at};
     ghost use Rattle.std.specs.BTreeMap.Range.{is_from_start};
     ghost use Rattle.std.specs.declared.ops.Bound.TheVariants.{Excluded, Included};
@@ -132,6 +153,14 @@ impl SortedPlaces {
     {
         widen(alloc, &mut self.kept)?;
         put(&mut self.kept, place)
+    }
+
+    /// Takes a place out, where it stands here. It takes no memory.
+    pub(crate) fn remove(&mut self, place: OwnPlace)
+        ensures { (k : OwnPlace) → stands self.new k
+            ≡ (not (is_at (place_cmp place) k) && stands self.old k) }
+    {
+        remove(&mut self.kept, place)
     }
 
     /// The least place from one on, and the one behind it.

@@ -1,6 +1,6 @@
--- What is found by an owner, and a place more of it, where records and spaces stand apart.
+-- What is found by an owner, and a place more or less of it, where records and spaces stand apart.
 use Rattle.std.proofs.Common.{◌≡◌, List, [], ◌∷◌, cond, refl, ap, sym, ◌∙◌}
-use Rattle.std.specs.Prelude.{◌||◌, Option, Some}
+use Rattle.std.specs.Prelude.{◌&&◌, ◌||◌, Option, Some, false, not}
 use Rattle.std.specs.BTreeMap.{is_at}
 use Rattle.std.specs.Map.{lookup}
 use Rattle.mapdb_facts.specs.Names.{same_id, same_space}
@@ -10,7 +10,7 @@ use Rattle.mapdb_lists.specs.declared.own_places.OwnPlace.{OwnPlace}
 use Rattle.mapdb_lists.specs.declared.own_places.OwnPlaces.{OwnPlaces}
 use Rattle.mapdb_lists.specs.declared.places.Owner.{Owner}
 use Rattle.mapdb_lists.specs.declared.places.Owner.TheVariants.{Record, Space}
-use Rattle.mapdb_lists.specs.Listing.{IsPut, places_in}
+use Rattle.mapdb_lists.specs.Listing.{IsPut, IsRemoved, places_in}
 use Rattle.mapdb_lists.specs.OwnPlaces.{place_cmp, stands}
 use Rattle.mapdb_lists.specs.Owners.{by_owner, same_owner}
 
@@ -51,4 +51,31 @@ module _ (records : List (RecordId × OwnPlaces)) (old new : List (names.Space �
     own = h.own;
     given = space_given;
     put = λ k. h.put k ∙ ap (λ (o : Option OwnPlaces). is_at (place_cmp place) k || stands (places_in o) k) (sym (space_found records old space));
+  }
+
+-- a place less of a record, and of a space
+module _ (old new : List (RecordId × OwnPlaces)) (spaces : List (names.Space × OwnPlaces)) (id : RecordId) (place : OwnPlace)
+    (h : IsRemoved RecordId same_id old new id place) where
+  record_others : (q : Owner) → same_owner (Record id) q ≡ false → lookup (same_owner q) (by_owner new spaces).entries ≡ lookup (same_owner q) (by_owner old spaces).entries
+  record_others (Record q) other = record_found new spaces q ∙ h.others q other ∙ sym (record_found old spaces q)
+  record_others (Space q) other = space_found new spaces q ∙ sym (space_found old spaces q)
+
+  pub record_removed : IsRemoved Owner same_owner (by_owner old spaces).entries (by_owner new spaces).entries (Record id) place
+  record_removed = record {
+    removed = λ k. ap (λ (o : Option OwnPlaces). stands (places_in o) k) (record_found new spaces id)
+        ∙ h.removed k ∙ ap (λ (o : Option OwnPlaces). not (is_at (place_cmp place) k) && stands (places_in o) k) (sym (record_found old spaces id));
+    others = record_others;
+  }
+
+module _ (records : List (RecordId × OwnPlaces)) (old new : List (names.Space × OwnPlaces)) (space : names.Space) (place : OwnPlace)
+    (h : IsRemoved names.Space same_space old new space place) where
+  space_others : (q : Owner) → same_owner (Space space) q ≡ false → lookup (same_owner q) (by_owner records new).entries ≡ lookup (same_owner q) (by_owner records old).entries
+  space_others (Record q) other = record_found records new q ∙ sym (record_found records old q)
+  space_others (Space q) other = space_found records new q ∙ h.others q other ∙ sym (space_found records old q)
+
+  pub space_removed : IsRemoved Owner same_owner (by_owner records old).entries (by_owner records new).entries (Space space) place
+  space_removed = record {
+    removed = λ k. ap (λ (o : Option OwnPlaces). stands (places_in o) k) (space_found records new space)
+        ∙ h.removed k ∙ ap (λ (o : Option OwnPlaces). not (is_at (place_cmp place) k) && stands (places_in o) k) (sym (space_found records old space));
+    others = space_others;
   }

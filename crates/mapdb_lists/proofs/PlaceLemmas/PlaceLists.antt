@@ -43,12 +43,12 @@ at_stands places index p at = subst (λ (x : OwnPlace). stands places x ≡ true
 not_both : (a b : OwnPlace) → place_cmp a b ≡ Less → place_cmp b a ≡ Less → ⊥
 not_both a b up down = true≢false (sym (ap is_lt up) ∙ ap is_lt (place_total.antisymm a b) ∙ ap (λ (o : Ordering). is_lt (ordering_reverse o)) down)
 
-not_itself : (a : OwnPlace) → place_cmp a a ≡ Less → ⊥
+pub not_itself : (a : OwnPlace) → place_cmp a a ≡ Less → ⊥
 not_itself a less = not_both a a less less
 
 -- of two indices, as of two places
 module _ (places : List OwnPlace) (ascend : Ascend places) where
-  up : (i j : ℕ) (p q : OwnPlace) → i < j → IsAtIndex places i p → IsAtIndex places j q → place_cmp p q ≡ Less
+  pub up : (i j : ℕ) (p q : OwnPlace) → i < j → IsAtIndex places i p → IsAtIndex places j q → place_cmp p q ≡ Less
   up i j p q less one other =
       subst (λ (x : OwnPlace). place_cmp x q ≡ Less) (one.1 p)
       (subst (λ (x : OwnPlace). place_cmp (get_or places i p) x ≡ Less) (other.1 p) (ascend i j p less other.0))

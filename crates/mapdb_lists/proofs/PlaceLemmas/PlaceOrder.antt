@@ -1,5 +1,5 @@
 -- How places of one owner are ordered: by order, first page and name.
-use Rattle.std.proofs.Common.{◌≡◌, ℕ, ◌<◌, ◌≤◌, true, false, refl, sym, ap, ◌∙◌, arith, inl, inr}
+use Rattle.std.proofs.Common.{◌≡◌, ℕ, ◌<◌, ◌≤◌, Bool, true, false, refl, sym, ap, ◌∙◌, arith, inl, inr}
 use Rattle.std.specs.Prelude.{◌⊎◌, ◌&&◌, nat_eq}
 use Rattle.std.specs.BTreeMap.{is_at}
 use Rattle.std.specs.Cmp.{IsTotalOrder, tied_then}
@@ -14,6 +14,7 @@ use Rattle.mapdb_facts.specs.Kept.{id_cmp}
 use Rattle.mapdb_facts.specs.Names.{root, same_id}
 use Rattle.mapdb_lists.specs.declared.own_places.OwnPlace.{OwnPlace}
 use Rattle.mapdb_lists.specs.contracts.own_places.OwnPlaceOrd.TheImpl as place_ord
+use Rattle.mapdb_lists.specs.contracts.own_places.OwnPlacePartialEq.TheImpl as place_eq
 use Rattle.mapdb_lists.specs.OwnPlaces.{place_cmp, start}
 use Rattle.mapdb_lists.proofs.Lists.ListedOrder.{from_equal, id_total, less_from, root_first, three_ways, up_to}
 
@@ -24,6 +25,10 @@ derived_cmp = (place_ord.ghosts).cmp
 pub derived_is : derived_cmp ≡ place_cmp
 derived_is = refl
 
+-- and so is what is equal
+abbrev pub derived_eq : OwnPlace → OwnPlace → Bool
+derived_eq = (place_eq.ghosts).eq
+
 -- ---- it is total, and what compares equal is the same
 
 pub place_total : IsTotalOrder place_cmp
@@ -31,7 +36,7 @@ place_total =
     then_total (on_total (λ (p : OwnPlace). p.order) nat_cmp_total)
     (then_total (on_total (λ (p : OwnPlace). p.first) nat_cmp_total) (on_total (λ (p : OwnPlace). p.id) id_total))
 
-place_at : (a b : OwnPlace) → is_at (place_cmp a) b ≡ (nat_eq a.order b.order && (nat_eq a.first b.first && same_id a.id b.id))
+pub place_at : (a b : OwnPlace) → is_at (place_cmp a) b ≡ (nat_eq a.order b.order && (nat_eq a.first b.first && same_id a.id b.id))
 place_at a b =
     sym (tied_then (nat_cmp a.order b.order) (ordering_then (nat_cmp a.first b.first) (id_cmp a.id b.id)))
     ∙ (λ i. nat_at a.order b.order i && last i)
