@@ -1,3 +1,4 @@
+pub mod AllBut
 pub mod AppliedLemmas
 pub mod CallCases
 pub mod FormedIssues

@@ -1,4 +1,5 @@
 pub mod BatchClashes
+pub mod KnownLeftOut
 pub mod LeastNames
 pub mod NewsAtoms
 pub mod NewsOfBatches

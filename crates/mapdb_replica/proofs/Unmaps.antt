@@ -6,6 +6,7 @@ pub mod HolderTurns
 pub mod MeetingRecords
 pub mod NewTotals
 pub mod Reaching
+pub mod Revoked
 pub mod SharedPlaces
 pub mod SortedTurns
 pub mod TakenPages

@@ -1,3 +1,4 @@
+pub mod AllBut
 pub mod LeastNames
 pub mod NamedRecords
 pub mod Passing

@@ -1,3 +1,4 @@
 pub mod PlaceNames
 pub mod SharedPlaces
 pub mod Sweeps
+pub mod Unlisted

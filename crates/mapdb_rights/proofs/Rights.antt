@@ -6,6 +6,7 @@ pub mod FromParents
 pub mod Narrow
 pub mod OneFrameRelation
 pub mod OneRelation
+pub mod Revoked
 pub mod Settled
 pub mod SourcePages
 pub mod Stepped

@@ -15,9 +15,9 @@ use Rattle.mapdb_rights.specs.Caching.{AreRights}
 use Rattle.mapdb_rights.specs.CachedFrames.{AreFrames}
 use Rattle.mapdb_rights.specs.HeldPlaces.{AreOfHeld, HasPlaces}
 
--- each record that is held is listed and no other, and what is listed is aligned; each record that
--- is held stands under its own name and is well-formed; under each name the same is kept beside
--- the places
+-- each record that is held is listed, as far as it is not revoked, and no other, and what is listed
+-- is aligned; each record that is held stands under its own name and is well-formed; under each
+-- name the same is kept beside the places
 pub record AreListed (S : State) (listed : Places) : Type 0 where
   pub named : IsNamed S
   pub formed : (r : Record) → Holds S r → IsFormedRecord r

@@ -1,13 +1,16 @@
--- Which records have their places listed: those that are held, and no others.
-use Rattle.std.specs.Prelude.{◌≡◌, ◌⊎◌, true}
+-- Which records have their places listed: those that are held, but for what is revoked, and no
+-- others.
+use Rattle.std.specs.Prelude.{◌≡◌, ◌⊎◌, Some, true}
 use Rattle.mapdb_fpage.specs.Place.{IsPlace}
 use Rattle.mapdb_facts.specs.Looking.{Holds}
 use Rattle.mapdb_facts.specs.State.{State}
+use Rattle.mapdb_facts.specs.declared.names.RecordId.{RecordId}
 use Rattle.mapdb_facts.specs.declared.operations.Record.{Record}
-use Rattle.mapdb_lists.specs.Listing.{is_listed}
+use Rattle.mapdb_lists.specs.Listing.{held_record, is_listed}
 use Rattle.mapdb_lists.specs.declared.places.Listed.{Listed}
 use Rattle.mapdb_lists.specs.declared.places.Owner.TheVariants as owners
 use Rattle.mapdb_lists.specs.declared.places.Places.{Places}
+use Rattle.mapdb_rights.specs.Revoked.{IsRevoked, IsRevokedBelow}
 
 -- a record's place stands under its space
 abbrev pub place_of : Record → Listed
@@ -28,14 +31,20 @@ source_of r = record {
 }
 
 -- both stand there, and the place is one
-pub record IsListed (set : Places) (r : Record) : Type 0 where
+pub record HasBoth (set : Places) (r : Record) : Type 0 where
   pub by_space : is_listed set (place_of r) ≡ true
   pub by_parent : is_listed set (source_of r) ≡ true
   pub place : IsPlace r.place
 
+-- Its source stands there, unless it is revoked, and its place, unless its children are too.
+pub record IsListed (S : State) (set : Places) (r : Record) : Type 0 where
+  pub by_space : IsRevokedBelow S r ⊎ (is_listed set (place_of r) ≡ true)
+  pub by_parent : IsRevoked S r ⊎ (is_listed set (source_of r) ≡ true)
+  pub place : IsPlace r.place
+
 -- each record that is held is listed, whether its parent is held or not
 abbrev pub HasPlaces : State → Places → Type 0
-HasPlaces S set = (r : Record) → Holds S r → IsListed set r
+HasPlaces S set = (r : Record) → Holds S r → IsListed S set r
 
 -- a held record whose place or whose source the entry is
 pub record IsOfHeld (S : State) (e : Listed) : Type 0 where
@@ -46,3 +55,8 @@ pub record IsOfHeld (S : State) (e : Listed) : Type 0 where
 -- nothing is listed but held records
 abbrev pub AreOfHeld : State → Places → Type 0
 AreOfHeld S set = (e : Listed) → is_listed set e ≡ true → IsOfHeld S e
+
+-- what is held beside the places is the state's
+abbrev pub AreHeldOf : State → Places → Type 0
+AreHeldOf S set = (id : RecordId) (r : Record) → held_record set id ≡ Some r
+    → S.record_at id ≡ Some r

@@ -20,6 +20,7 @@ mod sharing;
 mod shown_runs;
 mod stale;
 mod stepping;
+mod unlisting;
 
 pub use rights_index::RightsIndex;
 pub use runs::RightsRun;

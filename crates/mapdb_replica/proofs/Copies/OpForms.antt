@@ -41,7 +41,8 @@ record_formed (Cut cut ∷ ops) r all (inr later) = record_formed ops r (and_par
 record_formed (Closed space ∷ ops) r all (inl h) = absurd h
 record_formed (Closed space ∷ ops) r all (inr later) = record_formed ops r (and_parts (is_formed (Closed space)) (all_formed ops) all).1 later
 
-source_is : (r : Record) → IsPlace r.place → IsFormedRecord r → IsPlace (source_place r)
+-- the source of a well-formed record is a place as its own one is
+pub source_is : (r : Record) → IsPlace r.place → IsFormedRecord r → IsPlace (source_place r)
 source_is r place formed = record {
   at_least_a_page = place.at_least_a_page;
   at_most_all = place.at_most_all;

@@ -57,10 +57,14 @@ found-name (x ∷ rest) id h is = step (same_id x.id id) refl (found-name rest i
     step true same later e = ap by_name (sym (some_is x h e)) ∙ same_id_true x.id id same
     step false apart later e = later e
 
--- a listed record is held, and so well-formed
+-- a listed record is held
+pub listed_held : (facts : Facts) → IsNamed (state_of_facts facts) → (r : Record) → IsAmong r (records_of_facts facts) → Holds (state_of_facts facts) r
+listed_held facts named r among =
+    sym (find_listed facts named r.id) ∙ among_find (records_of_facts facts) r (ascending_records (births (state_of_facts facts) (names_in facts.records))) among
+
+-- and so well-formed
 pub listed_formed : (facts : Facts) → IsNamed (state_of_facts facts) → ((r : Record) → Holds (state_of_facts facts) r → IsFormedRecord r) → (r : Record) → IsAmong r (records_of_facts facts) → IsFormedRecord r
-listed_formed facts named formed r among =
-    formed r (sym (find_listed facts named r.id) ∙ among_find (records_of_facts facts) r (ascending_records (births (state_of_facts facts) (names_in facts.records))) among)
+listed_formed facts named formed r among = formed r (listed_held facts named r among)
 
 -- and has not the name of the root
 pub not_root : (r : Record) → IsFormedRecord r → is_root r.id ≡ false

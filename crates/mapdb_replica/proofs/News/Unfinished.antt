@@ -1,5 +1,5 @@
 -- Where a batch is not taken to its end, something of what is left is new.
-use Rattle.std.proofs.Common.{◌≡◌, ℕ, zero, suc, ◌+◌, ◌<◌, Bool, true, false, refl, sym, ap, subst, ◌∙◌, List, [], ◌∷◌, arith, drop, get_or, length}
+use Rattle.std.proofs.Common.{◌≡◌, ℕ, zero, suc, ◌+◌, ◌<◌, Bool, true, false, refl, ap, subst, List, [], ◌∷◌, arith, drop, get_or, length}
 use Rattle.std.specs.Prelude.{◌||◌, IfSome, None, Option, Result, Ok, Err, Some, filter, slice_get, if◌then◌else◌}
 use Rattle.std.specs.List.{list_any}
 use Rattle.std.specs.Option.{option_map, option_or}
@@ -9,7 +9,7 @@ use Rattle.mapdb_facts.specs.declared.names.RecordId.{RecordId}
 use Rattle.mapdb_facts.specs.declared.operations.Op.{Op}
 use Rattle.mapdb_replica.specs.Taking.{HasMore, bad_at, first_bad, too_many}
 use Rattle.mapdb_replica.specs.declared.faults.TakeFault.{TakeFault}
-use Rattle.mapdb_replica.specs.declared.faults.TakeFault.TheVariants.{Bad, Clash, Full}
+use Rattle.mapdb_replica.specs.declared.faults.TakeFault.TheVariants.{Clash, Full}
 
 module _ (test : Op → Bool) where
   passes : (b other : Bool) → b ≡ true → (b || other) ≡ true

@@ -1,15 +1,14 @@
 -- Records that share no page with a place have nothing to do with it: those that do give all that all give.
-use Rattle.std.proofs.Common.{◌≡◌, ℕ, zero, suc, ◌+◌, ◌<◌, ◌≤◌, Bool, true, false, Some, refl, sym, ap, ◌∙◌, List, [], ◌∷◌, ◌++◌, append_assoc, get_or, length, take, arith}
-use Rattle.std.specs.Prelude.{◌&&◌, None, Option, filter, is_some, map, max, if◌then◌else◌}
+use Rattle.std.proofs.Common.{◌≡◌, ℕ, ◌+◌, ◌<◌, Bool, true, false, Some, refl, sym, ap, ◌∙◌, List, [], ◌∷◌, ◌++◌, append_assoc, append-nil, get_or, length, take}
+use Rattle.std.specs.Prelude.{◌&&◌, None, Option, filter, is_some, map, if◌then◌else◌}
 use Rattle.std.specs.List.{cons_option, filter_map, flat_map}
 use Rattle.std.proofs.lemmas.Bool.{false≢true}
 use Rattle.std.proofs.lemmas.Grind.{flat_map-append}
 use Rattle.std.proofs.lemmas.List.{take_more}
 use Rattle.std.proofs.lemmas.List.Elements.{filter_map-append}
-use Rattle.mapdb_fpage.specs.Place.{Place, meet}
+use Rattle.mapdb_fpage.specs.Place.{Place, meet, whole}
 use Rattle.mapdb_fpage.specs.declared.right_sets.Rights.{Rights}
-use Rattle.mapdb_facts.specs.Names.{same_id, same_space}
-use Rattle.mapdb_facts.specs.Records.{greatest_number}
+use Rattle.mapdb_facts.specs.Names.{is_first_space, root, same_id, same_space}
 use Rattle.mapdb_facts.specs.State.{State}
 use Rattle.mapdb_facts.specs.declared.names.RecordId.{RecordId}
 use Rattle.mapdb_facts.specs.declared.names.Space.{Space}
@@ -17,7 +16,7 @@ use Rattle.mapdb_facts.specs.declared.operations.Op.{Op}
 use Rattle.mapdb_facts.specs.declared.operations.Record.{Record}
 use Rattle.mapdb_rights.specs.Meeting.{children_of, holders_of, holds_part, source_place, takes_part}
 use Rattle.mapdb_replica.specs.Issue.{first_holders, holder_of, holders, piece_of, piece_with, record_holders, record_piece}
-use Rattle.mapdb_replica.specs.Revoking.{cut_within}
+use Rattle.mapdb_replica.specs.Revoking.{cut_within, first_holder}
 use Rattle.mapdb_replica.specs.Unmap.{child_cut, child_cut_with, cuts_within, holder_cuts}
 use Rattle.mapdb_replica.specs.declared.pieces.Holder.{Holder}
 use Rattle.mapdb_replica.specs.declared.pieces.Piece.{Piece}
@@ -40,6 +39,13 @@ pub given_more : {X Y : Type 0} (f : X → Option Y) (xs : List X) (i : ℕ) (x 
     → filter_map f (take (i + 1) xs) ≡ filter_map f (take i xs) ++ cons_option (f x) []
 given_more {X} {Y} f xs i x within is =
     ap (filter_map f) (take_more xs i x within ∙ ap (λ (y : X). take i xs ++ y ∷ []) (sym is)) ∙ filter_map-append f (take i xs) (x ∷ [])
+
+-- what is listed of one more
+pub listed_more : {X Y : Type 0} (f : X → List Y) (xs : List X) (i : ℕ) (x : X) → i < length xs → x ≡ get_or xs i x
+    → flat_map f (take i xs) ++ f x ≡ flat_map f (take (i + 1) xs)
+listed_more {X} {Y} f xs i x within is =
+    sym (ap (flat_map f) (take_more xs i x within ∙ ap (λ (y : X). take i xs ++ y ∷ []) (sym is)) ∙ flat_map-append f (take i xs) (x ∷ [])
+    ∙ ap (λ (ys : List Y). flat_map f (take i xs) ++ ys) (append-nil (f x)))
 
 -- what is listed of values that others give
 pub listed_map : {W X Y : Type 0} (g : W → X) (f : X → List Y) (ws : List W) → flat_map f (map g ws) ≡ flat_map (λ (w : W). f (g w)) ws
@@ -78,21 +84,6 @@ pieces_more S sender source rights held i r o first found next within is here mo
     ∙ ap (λ (x : Option Piece). first ++ (pieces_of S sender source rights (take i held) ++ list_of x)) here
     ∙ ap (λ (xs : List Piece). first ++ xs) (sym (given_more (record_piece S sender source rights) held i r within is))
 
-number_step : (test : Record → Bool) (s : Record) (rest : List Record) (r : Record)
-    → ((k : ℕ) → k < length (filter test rest) → r ≡ get_or (filter test rest) k r → r.id.number ≤ greatest_number rest)
-    → (i : ℕ) (b : Bool) → i < length (if b then s ∷ filter test rest else filter test rest)
-    → r ≡ get_or (if b then s ∷ filter test rest else filter test rest) i r → r.id.number ≤ max s.id.number (greatest_number rest)
-number_step test s rest r later i false within is = let low = later i within is in omega arith
-number_step test s rest r later zero true within is =
-    let same : r.id.number ≡ s.id.number = ap (λ (x : Record). x.id.number) is in omega arith
-number_step test s rest r later (suc i) true within is = let low = later i (omega arith) is in omega arith
-
--- of those that pass none has a number above the greatest of all
-pub number_held : (test : Record → Bool) (records : List Record) (i : ℕ) (r : Record) → i < length (filter test records)
-    → r ≡ get_or (filter test records) i r → r.id.number ≤ greatest_number records
-number_held test [] i r within is = absurd (omega arith)
-number_held test (s ∷ rest) i r within is = number_step test s rest r (λ k. number_held test rest k r) i (test s) within is
-
 -- cuts
 
 child_alike : (id : RecordId) (part : Place) (rights : Rights) (child : Record) (b c : Bool) → (b && c) ≡ true
@@ -113,6 +104,28 @@ cuts_taken records id part rights =
     given_all (λ (child : Record). cut_within rights child (Some part)) (child_cut part rights id) (takes_part id part)
     (λ child same. child_alike id part rights child (same_id child.parent id) (is_some (meet (source_place child) part)) same)
     (λ child apart. child_apart id part rights child (same_id child.parent id) (meet (source_place child) part) apart) records
+
+same_holder : (g h : Holder) → Some g ≡ Some h → g ≡ h
+same_holder g h e = cc
+
+no_holder : (h : Holder) → None ≡ Some h → ⊥
+no_holder h e = cc
+
+-- what is listed of the root, where the space is the first
+pub listed_first : (f : Holder → List Op) (space : Space) (h : Holder) → first_holder space ≡ Some h → flat_map f (first_holders space) ≡ f h
+listed_first f space h is = by (is_first_space space) is
+  where
+    by : (b : Bool) → (if b then Some (record { id = root; place = whole }) else None) ≡ Some h → flat_map f (if b then record { id = root; place = whole } ∷ [] else []) ≡ f h
+    by true e = append-nil (f (record { id = root; place = whole })) ∙ ap f (same_holder (record { id = root; place = whole }) h e)
+    by false e = absurd (no_holder h e)
+
+-- and where it is not
+pub none_first : (f : Holder → List Op) (space : Space) → first_holder space ≡ None → flat_map f (first_holders space) ≡ []
+none_first f space is = by (is_first_space space) is
+  where
+    by : (b : Bool) → (let o : Option Holder = if b then Some (record { id = root; place = whole }) else None in o ≡ None) → flat_map f (if b then record { id = root; place = whole } ∷ [] else []) ≡ []
+    by true e = absurd (no_holder (record { id = root; place = whole }) (sym e))
+    by false e = refl
 
 module _ (records : List Record) (space : Space) (page : Place) (rights : Rights) (flush : Bool) where
   abbrev cuts_of : List Holder → List Op

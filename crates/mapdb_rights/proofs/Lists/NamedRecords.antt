@@ -1,12 +1,12 @@
 -- The records that are looked up by ascending names are those of a list that pass.
 use Rattle.std.proofs.Common.{◌≡◌, ℕ, ◌+◌, ◌<◌, Bool, true, false, cond, Some, refl, sym, ap, subst, ◌∙◌, List, [], ◌∷◌, ◌++◌, add-one, append_assoc, drop, get_or, inl, inr, length, suc}
-use Rattle.std.specs.Prelude.{◌||◌, Option, None, filter, if◌then◌else◌}
+use Rattle.std.specs.Prelude.{◌&&◌, ◌||◌, ◌⊎◌, Option, None, filter, if◌then◌else◌}
 use Rattle.std.specs.List.{All, AllByRecursion, cons_option, dedup, dedup_from, filter_map, list_any}
 use Rattle.std.specs.List.Sorted.{IsPermutation, IsSorted, IsStrictlySortedBy}
 use Rattle.std.specs.BTreeMap.{is_at}
 use Rattle.std.specs.declared.cmp.Ordering.TheVariants.{Less}
 use Rattle.std.proofs.Math.Seq.{drop-cons}
-use Rattle.std.proofs.lemmas.Bool.{cases_Bool, cond-true, false≢true}
+use Rattle.std.proofs.lemmas.Bool.{and_from, and_parts, cases_Bool, cond-true, false≢true}
 use Rattle.std.proofs.lemmas.List.Elements.{All-from_recursion}
 use Rattle.std.proofs.lemmas.List.Kept.{IsStrictlySortedBy-dedup}
 use Rattle.std.proofs.lemmas.List.Sorted.{list_any-IsPermutation}
@@ -15,7 +15,7 @@ use Rattle.mapdb_facts.proofs.RecordLemmas.Ascending.{after_at, after_from, amon
 use Rattle.mapdb_facts.proofs.Lists.Comparing.{exact_ids, id_at}
 use Rattle.mapdb_facts.proofs.RecordLemmas.Listed.{find_listed}
 use Rattle.mapdb_facts.proofs.Lists.SameLists.{same_lists}
-use Rattle.mapdb_facts.proofs.Lists.SameNames.{none_some, same_id_true, some_same}
+use Rattle.mapdb_facts.proofs.Lists.SameNames.{none_some, same_id_itself, same_id_true, some_same}
 use Rattle.mapdb_facts.specs.Facts.{births, records_of_facts, state_of_facts}
 use Rattle.mapdb_facts.specs.Kept.{id_cmp, names_in}
 use Rattle.mapdb_facts.specs.Looking.{Holds}
@@ -27,7 +27,9 @@ use Rattle.mapdb_facts.specs.declared.holding.Facts.{Facts}
 use Rattle.mapdb_facts.specs.declared.names.RecordId.{RecordId}
 use Rattle.mapdb_facts.specs.declared.operations.Record.{Record}
 use Rattle.mapdb_lists.proofs.Lists.ListedOrder.{id_total}
+use Rattle.mapdb_rights.specs.AllBut.{IsAllBut}
 use Rattle.mapdb_rights.specs.Meeting.{is_named, record_if}
+use Rattle.mapdb_rights.proofs.Lists.AllBut.{all_but_failing}
 use Rattle.mapdb_rights.proofs.Lists.Passing.{among_filter, ascending_filter, filter_among}
 use Rattle.mapdb_rights.proofs.Places.PlaceNames.{before_of}
 
@@ -158,26 +160,54 @@ module _ (test : Record → Bool) (S : State) (named : IsNamed S) where
         later,
       )
 
--- Where each held record that passes is named, those that are looked up are those of the list that pass.
+-- the record passes, and its name is one of these
+abbrev pub passes_named : (Record → Bool) → List RecordId → Record → Bool
+passes_named test names r = test r && is_named names r.id
+
+-- a key of a set of names is one of them
+pub named_among : (id : RecordId) (names : List RecordId) → IsAmong id names → is_named names id ≡ true
+named_among id [] k = absurd k
+named_among id (other ∷ names) (inl e) =
+    ap (λ (b : Bool). b || is_named names id) (id_at id other ∙ ap (λ (o : RecordId). same_id id o) e ∙ same_id_itself id)
+named_among id (other ∷ names) (inr k) = or_later (is_at (id_cmp id) other) (is_named names id) (named_among id names k)
+  where
+    or_later : (a b : Bool) → b ≡ true → (a || b) ≡ true
+    or_later true b h = refl
+    or_later false b h = h
+
+-- Those that are looked up are those of the list that pass and are named.
 pub looked_is_filtered : (facts : Facts) (test : Record → Bool) (names : List RecordId) → IsNamed (state_of_facts facts) → IsAscending itself names
-    → ((r : Record) → Holds (state_of_facts facts) r → test r ≡ true → IsAmong r.id names)
-    → filter_map (λ id. record_if test ((state_of_facts facts).record_at id)) names ≡ filter test (records_of_facts facts)
-looked_is_filtered facts test names named rising covered =
-    same_lists by_id (filter_map (looked test S named) names) (filter test (records_of_facts facts))
-    (ascending_looked test S named names rising) (ascending_filter test by_id (records_of_facts facts) ascending)
+    → filter_map (λ id. record_if test ((state_of_facts facts).record_at id)) names ≡ filter (passes_named test names) (records_of_facts facts)
+looked_is_filtered facts test names named rising =
+    same_lists by_id (filter_map (looked test S named) names) (filter both (records_of_facts facts))
+    (ascending_looked test S named names rising) (ascending_filter both by_id (records_of_facts facts) ascending)
     (record {
       to = λ r k. let found = found_names test S named names r k in
-          among_filter test (records_of_facts facts) r (find_among (records_of_facts facts) r.id r (find_listed facts named r.id ∙ found.held)).0 found.passes;
-      from = λ r k. let found = filter_among test (records_of_facts facts) r k in
+          among_filter both (records_of_facts facts) r (find_among (records_of_facts facts) r.id r (find_listed facts named r.id ∙ found.held)).0
+          (and_from (test r) (is_named names r.id) found.passes (named_among r.id names found.asked));
+      from = λ r k. let found = filter_among both (records_of_facts facts) r k in
+          let parts = and_parts (test r) (is_named names r.id) found.1 in
           let held : Holds S r = sym (find_listed facts named r.id) ∙ among_find (records_of_facts facts) r ascending found.0 in
-          names_found test S named names r (covered r held found.1) held found.1;
+          names_found test S named names r (among_keys r.id names parts.1) held parts.0;
     })
   where
     S : State
     S = state_of_facts facts
 
+    both : Record → Bool
+    both = passes_named test names
+
     ascending : IsAscending by_id (records_of_facts facts)
     ascending = ascending_records (births (state_of_facts facts) (names_in facts.records))
+
+-- Where each held record that passes is named, or may go, all but those that may go are found.
+pub looked_are_left : (facts : Facts) (may_go : Record → Type 0) (test : Record → Bool) (names : List RecordId) → IsNamed (state_of_facts facts) → IsAscending itself names
+    → ((r : Record) → Holds (state_of_facts facts) r → test r ≡ true → may_go r ⊎ (is_named names r.id ≡ true))
+    → IsAllBut may_go (filter test (records_of_facts facts)) (filter_map (λ id. record_if test ((state_of_facts facts).record_at id)) names)
+looked_are_left facts may_go test names named rising covered =
+    subst (λ (left : List Record). IsAllBut may_go (filter test (records_of_facts facts)) left) (sym (looked_is_filtered facts test names named rising))
+    (all_but_failing may_go test (λ (r : Record). is_named names r.id) (records_of_facts facts)
+    (λ r k passes. covered r (sym (find_listed facts named r.id) ∙ among_find (records_of_facts facts) r (ascending_records (births (state_of_facts facts) (names_in facts.records))) k) passes))
 
 -- what one name finds more
 pub looked_more : (find : RecordId → Option Record) (names : List RecordId) (i : ℕ) (d : RecordId) (found new all : List Record) → i < length names
@@ -197,10 +227,11 @@ all_members : (P : Record → Type 0) (xs : List Record) → ((r : Record) → I
 all_members P [] each = tt
 all_members P (r ∷ xs) each = (each r (inl refl), all_members P xs (λ s k. each s (inr k)))
 
--- what is true of each held record is true of those of the list that pass
-pub all_filtered : (facts : Facts) (test : Record → Bool) (P : Record → Type 0) → IsNamed (state_of_facts facts)
-    → ((r : Record) → Holds (state_of_facts facts) r → P r) → All P (filter test (records_of_facts facts))
-all_filtered facts test P named each =
-    All-from_recursion P (filter test (records_of_facts facts)) (all_members P (filter test (records_of_facts facts)) (λ r k.
+-- what is true of each held record is true of those that are looked up
+pub all_looked : (facts : Facts) (test : Record → Bool) (names : List RecordId) (P : Record → Type 0) → IsNamed (state_of_facts facts) → IsAscending itself names
+    → ((r : Record) → Holds (state_of_facts facts) r → P r) → All P (filter_map (λ id. record_if test ((state_of_facts facts).record_at id)) names)
+all_looked facts test names P named rising each =
+    subst (λ (rs : List Record). All P rs) (sym (looked_is_filtered facts test names named rising))
+    (All-from_recursion P (filter (passes_named test names) (records_of_facts facts)) (all_members P (filter (passes_named test names) (records_of_facts facts)) (λ r k.
     each r (sym (find_listed facts named r.id)
-    ∙ among_find (records_of_facts facts) r (ascending_records (births (state_of_facts facts) (names_in facts.records))) (filter_among test (records_of_facts facts) r k).0)))
+    ∙ among_find (records_of_facts facts) r (ascending_records (births (state_of_facts facts) (names_in facts.records))) (filter_among (passes_named test names) (records_of_facts facts) r k).0))))

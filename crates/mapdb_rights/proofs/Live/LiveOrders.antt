@@ -28,6 +28,7 @@ use Rattle.mapdb_rights.specs.HeldPlaces.{place_of}
 use Rattle.mapdb_rights.specs.Live.{IsLive, IsLiveFrom}
 use Rattle.mapdb_rights.specs.PageRights.{is_record_into}
 use Rattle.mapdb_rights.specs.Right.{rights_at}
+use Rattle.mapdb_rights.proofs.Rights.Revoked.{revoked_rights}
 use Rattle.mapdb_rights.proofs.Settling.Ended.{rights_in_place}
 use Rattle.mapdb_rights.proofs.Lists.LeastNames.{least_of_both}
 use Rattle.mapdb_rights.proofs.Live.LiveRecords.{into_held, no_root}
@@ -156,7 +157,12 @@ module _ (S : State) (set : Places) (space : Space) (page : ℕ) where
           r = held.0;
           at = held.1;
           into = ap (λ (o : Option Record). is_record_into o space) held.1 ∙ held.2;
-          has = there.by_space;
+          has = elim there.by_space [
+            | inl below ↦ absurd (false≢true (sym live.has_some ∙ ap is_empty (
+                ap (λ (o : RecordId). rights_at S o page) (sym (named id held.0 held.1))
+                ∙ revoked_rights S held.0 below.own (no_root held.0 (formed held.0 (held_own id held.0 held.1))) (held_own id held.0 held.1) page)))
+            | inr listed_there ↦ listed_there
+          ];
           owned = ap owners.Space (same_space_true held.0.space space held.2);
           meeting = place_meets_page held.0 page end inside (more (omega arith));
         }

@@ -1,6 +1,6 @@
 -- A record whose place, or whose source, shares pages with a place has an entry that meets its pages.
-use Rattle.std.proofs.Common.{◌≡◌, ℕ, ◌+◌, ◌-◌, ◌<◌, Bool, true, false, List, refl, ap, ◌∙◌, arith}
-use Rattle.std.specs.Prelude.{None, Some, filter, is_some, max, min, nat_le, nat_lt, if◌then◌else◌}
+use Rattle.std.proofs.Common.{◌≡◌, ℕ, ◌+◌, ◌-◌, ◌<◌, Bool, true, false, List, refl, ap, subst, sym, ◌∙◌, arith, inl, inr}
+use Rattle.std.specs.Prelude.{◌⊎◌, All, None, Some, filter, is_some, max, min, nat_le, nat_lt, if◌then◌else◌}
 use Rattle.std.specs.List.{filter_map}
 use Rattle.std.specs.List.Sorted.{IsStrictlySortedBy}
 use Rattle.std.proofs.lemmas.Bool.{and_parts, false≢true, lt-ltb}
@@ -13,8 +13,8 @@ use Rattle.mapdb_facts.specs.Kept.{id_cmp}
 use Rattle.mapdb_facts.specs.Looking.{Holds}
 use Rattle.mapdb_facts.specs.Merging.{IsNamed}
 use Rattle.mapdb_facts.specs.Names.{same_id, same_space}
-use Rattle.mapdb_facts.specs.Records.{IsAmong}
 use Rattle.mapdb_facts.specs.State.{State}
+use Rattle.mapdb_facts.specs.WellFormed.{IsFormedRecord}
 use Rattle.mapdb_facts.specs.declared.holding.Facts.{Facts}
 use Rattle.mapdb_facts.specs.declared.names.RecordId.{RecordId}
 use Rattle.mapdb_facts.specs.declared.operations.Record as operations
@@ -23,10 +23,12 @@ use Rattle.mapdb_lists.specs.declared.places.Listed.{Listed}
 use Rattle.mapdb_lists.specs.declared.places.Owner.{Owner}
 use Rattle.mapdb_lists.specs.declared.places.Owner.TheVariants.{Record, Space}
 use Rattle.mapdb_lists.specs.declared.places.Places.{Places}
+use Rattle.mapdb_rights.specs.AllBut.{IsAllBut}
 use Rattle.mapdb_rights.specs.Following.{AreListed}
 use Rattle.mapdb_rights.specs.HeldPlaces.{place_of, source_of}
 use Rattle.mapdb_rights.specs.Meeting.{is_named, record_if, shares_part, source_place}
-use Rattle.mapdb_rights.proofs.Lists.NamedRecords.{among_keys, ascending_keys, looked_is_filtered}
+use Rattle.mapdb_rights.specs.Revoked.{MayGo}
+use Rattle.mapdb_rights.proofs.Lists.NamedRecords.{all_looked, ascending_keys, looked_are_left}
 
 -- places that share pages meet
 meet_meets : (a b : Place) → is_some (meet a b) ≡ true → nat_lt (max a.first_page b.first_page) (min (a.first_page + page_total a) (b.first_page + page_total b)) ≡ true
@@ -63,24 +65,40 @@ meet_meets a b h = by_size (nat_le a.order b.order) h
     by_size true k = in_b (holds b a.first_page) refl k
     by_size false k = in_a (holds a b.first_page) refl k
 
--- what is true of the name of each entry that meets the pages of the place is true of the records that share pages with it
+-- what is true of the name of each entry that meets the pages of the place is true of the records that share pages with it, but for those that may go
 pub each_sharing : (set : Places) (S : State) (P : RecordId → Type 0) (part : Place) → AreListed S set → (owner : Owner)
     → ((e : Listed) → is_listed set e ≡ true → e.owner ≡ owner → meets e part.first_page (part.first_page + page_total part) ≡ true → P e.id)
-    → (r : operations.Record) → Holds S r → shares_part owner part r ≡ true → P r.id
+    → (r : operations.Record) → Holds S r → shares_part owner part r ≡ true → MayGo S owner r ⊎ P r.id
 each_sharing set S P part there (Space space) each r held shares =
     let parts = and_parts (same_space r.space space) (is_some (meet r.place part)) shares in
-    each (place_of r) (there.places r held).by_space (ap Space (same_space_true r.space space parts.0)) (meet_meets r.place part parts.1)
+    elim (there.places r held).by_space [
+      | inl below ↦ inl below
+      | inr has ↦ inr (each (place_of r) has (ap Space (same_space_true r.space space parts.0)) (meet_meets r.place part parts.1))
+    ]
 each_sharing set S P part there (Record parent) each r held shares =
     let parts = and_parts (same_id r.parent parent) (is_some (meet (source_place r) part)) shares in
-    each (source_of r) (there.places r held).by_parent (ap Record (same_id_true r.parent parent parts.0)) (meet_meets (source_place r) part parts.1)
+    elim (there.places r held).by_parent [
+      | inl revoked ↦ inl revoked
+      | inr has ↦ inr (each (source_of r) has (ap Record (same_id_true r.parent parent parts.0)) (meet_meets (source_place r) part parts.1))
+    ]
 
--- what the names of the entries that meet the pages find, as far as it shares pages with the place, is all that does
+-- what the names of the entries that meet the pages find, as far as it shares pages with the place, is all that does, but for what may go
 pub sharing_is_all : (facts : Facts) (set : Places) (owner : Owner) (part : Place) (read names : List RecordId) (first end : ℕ) → read ≡ names
     → IsNamed (state_of_facts facts) → AreListed (state_of_facts facts) set → first ≡ part.first_page → end ≡ part.first_page + page_total part → IsStrictlySortedBy id_cmp names
     → ((e : Listed) → is_listed set e ≡ true → e.owner ≡ owner → meets e first end ≡ true → is_named names e.id ≡ true)
-    → filter_map (λ id. record_if (shares_part owner part) ((state_of_facts facts).record_at id)) read ≡ filter (shares_part owner part) (records_of_facts facts)
+    → IsAllBut (MayGo (state_of_facts facts) owner) (filter (shares_part owner part) (records_of_facts facts))
+    (filter_map (λ id. record_if (shares_part owner part) ((state_of_facts facts).record_at id)) read)
 sharing_is_all facts set owner part read names first end is named there first_is end_is rising each =
-    ap (filter_map (λ id. record_if (shares_part owner part) ((state_of_facts facts).record_at id))) is
-    ∙ looked_is_filtered facts (shares_part owner part) names named (ascending_keys names rising)
-    (each_sharing set (state_of_facts facts) (λ (id : RecordId). IsAmong id names) part there owner
-    (λ e has own meeting. among_keys e.id names (each e has own ((λ i. meets e (first_is i) (end_is i)) ∙ meeting))))
+    subst (λ (ids : List RecordId). IsAllBut (MayGo (state_of_facts facts) owner) (filter (shares_part owner part) (records_of_facts facts))
+    (filter_map (λ id. record_if (shares_part owner part) ((state_of_facts facts).record_at id)) ids)) (sym is)
+    (looked_are_left facts (MayGo (state_of_facts facts) owner) (shares_part owner part) names named (ascending_keys names rising)
+    (each_sharing set (state_of_facts facts) (λ (id : RecordId). is_named names id ≡ true) part there owner
+    (λ e has own meeting. each e has own ((λ i. meets e (first_is i) (end_is i)) ∙ meeting))))
+
+-- and it is all of held records
+pub sharing_formed : (facts : Facts) (owner : Owner) (part : Place) (read names : List RecordId) → read ≡ names
+    → IsNamed (state_of_facts facts) → ((r : operations.Record) → Holds (state_of_facts facts) r → IsFormedRecord r) → IsStrictlySortedBy id_cmp names
+    → All IsFormedRecord (filter_map (λ id. record_if (shares_part owner part) ((state_of_facts facts).record_at id)) read)
+sharing_formed facts owner part read names is named formed rising =
+    subst (λ (ids : List RecordId). All IsFormedRecord (filter_map (λ id. record_if (shares_part owner part) ((state_of_facts facts).record_at id)) ids)) (sym is)
+    (all_looked facts (shares_part owner part) names IsFormedRecord named (ascending_keys names rising) formed)

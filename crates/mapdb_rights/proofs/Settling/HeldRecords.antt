@@ -14,6 +14,7 @@ use Rattle.mapdb_facts.specs.declared.operations.Record.{Record}
 use Rattle.mapdb_facts.proofs.Lists.SameNames.{same_id_itself}
 use Rattle.mapdb_lists.specs.Listing.{held_record, held_with}
 use Rattle.mapdb_lists.specs.declared.places.Places.{Places}
+use Rattle.mapdb_rights.specs.HeldPlaces.{AreHeldOf}
 use Rattle.mapdb_rights.proofs.Settling.Followed.{first_alone}
 
 -- what is found under a name in the state stands under it and is well-formed
@@ -24,10 +25,6 @@ under_named S (Some r) id named is = named id r (sym is)
 pub under_formed : (S : State) (o : Option Record) (id : RecordId) → IsNamed S → ((r : Record) → Holds S r → IsFormedRecord r) → o ≡ S.record_at id → IfSome o IsFormedRecord
 under_formed S None id named formed is = tt
 under_formed S (Some r) id named formed is = formed r (ap S.record_at (named id r (sym is)) ∙ sym is)
-
--- what is held is the state's
-abbrev pub AreHeldOf : State → Places → Type 0
-AreHeldOf S set = (id : RecordId) (r : Record) → held_record set id ≡ Some r → S.record_at id ≡ Some r
 
 -- one record of the state more is held
 module _ (S : State) (old new : Places) (m : Record) (own : Holds S m) (more : (id : RecordId) → held_record new id ≡ held_with old m id) where

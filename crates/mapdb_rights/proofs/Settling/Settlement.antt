@@ -7,11 +7,15 @@ use Rattle.std.proofs.lemmas.Bool.{and_from, and_parts, cases_Bool, cond-false, 
 use Rattle.std.proofs.lemmas.Grind.{common_steps}
 use Rattle.mapdb_fpage.specs.Bounds.{page_limit}
 use Rattle.mapdb_fpage.specs.Place.{holds}
+use Rattle.mapdb_fpage.specs.RightSets.{no_rights}
 use Rattle.mapdb_fpage.specs.declared.right_sets.Rights.{Rights}
 use Rattle.mapdb_facts.specs.Adding.{same_rights}
 use Rattle.mapdb_facts.specs.Exact.{exact_id}
-use Rattle.mapdb_facts.specs.Names.{number_limit, same_id}
+use Rattle.mapdb_facts.specs.Looking.{Holds}
+use Rattle.mapdb_facts.specs.Merging.{IsNamed}
+use Rattle.mapdb_facts.specs.Names.{is_root, number_limit, same_id}
 use Rattle.mapdb_facts.specs.State.{State}
+use Rattle.mapdb_facts.specs.WellFormed.{IsFormedRecord}
 use Rattle.mapdb_facts.specs.declared.names.RecordId.{RecordId}
 use Rattle.mapdb_facts.specs.declared.operations.Record.{Record}
 use Rattle.mapdb_lists.specs.Changes.{Cached, covers}
@@ -19,6 +23,9 @@ use Rattle.mapdb_rights.specs.Right.{reaches, source_page}
 use Rattle.mapdb_rights.specs.declared.index.stale.Stale.{Stale}
 use Rattle.mapdb_rights.specs.Caching.{IsSettled, IsTakenAnew, rights_from}
 use Rattle.mapdb_rights.specs.Pending.{AreSettledBut, IsPending, share, weight, worth}
+use Rattle.mapdb_rights.specs.Revoked.{IsRevoked}
+use Rattle.mapdb_rights.proofs.Rights.Revoked.{revoked_from, revoked_settled}
+use Rattle.mapdb_rights.proofs.Settling.Ended.{numbered_is_other}
 use Rattle.mapdb_rights.proofs.Settling.Pendings.{pending_either, weight-last}
 use Rattle.mapdb_rights.proofs.Rights.Settled.{settling_unsettles_children}
 
@@ -107,19 +114,53 @@ module _ (S : State) (old new : Cached) (id : RecordId) (first end : ℕ) (right
               ∙ rights_itself (old other page)))
         ]
 
-    pub settled_after : (stack : List Stale)
-        → ((other : RecordId) (r : Record) → S.record_at other ≡ Some r → r.parent ≡ id → (page : ℕ) → holds r.place page ≡ true → first ≤ source_page r page → source_page r page < end → IsPending stack other page)
+    -- a record that is revoked has nothing, whatever its parent has
+    left_settled : IsNamed S → ((r : Record) → Holds S r → IsFormedRecord r) → (other : RecordId) (r : Record) → S.record_at other ≡ Some r → IsRevoked S r → (page : ℕ) → holds r.place page ≡ true
+        → IsSettled S old other page ⊎ (covers id first end other page ≡ true) → IsSettled S new other page
+    left_settled named formed other r at revoked page inside before =
+        subst (λ (o : RecordId). IsSettled S new o page) name
+        (nothing (subst (λ (o : RecordId). IsSettled S old o page ⊎ (covers id first end o page ≡ true)) (sym name) before))
+      where
+        name : r.id ≡ other
+        name = named other r at
+
+        held : S.record_at r.id ≡ Some r
+        held = ap S.record_at name ∙ at
+
+        not_root : is_root r.id ≡ false
+        not_root = numbered_is_other r.id (formed r held).has_number
+
+        none : rights_from old S r.id page ≡ no_rights
+        none = revoked_from S r revoked not_root held old page inside
+
+        written_none : (t : Bool) → covers id first end r.id page ≡ t → (t ≡ true) ⊎ (old r.id page ≡ no_rights) → new r.id page ≡ no_rights
+        written_none true c either = taken r.id page ∙ cond-true (covers id first end r.id page) (rights_from old S r.id page) (old r.id page) c ∙ none
+        written_none false c (inl t) = absurd (false≢true t)
+        written_none false c (inr kept) = taken r.id page ∙ cond-false (covers id first end r.id page) (rights_from old S r.id page) (old r.id page) c ∙ kept
+
+        nothing : IsSettled S old r.id page ⊎ (covers id first end r.id page ≡ true) → IsSettled S new r.id page
+        nothing (inl settled) = revoked_settled S r revoked not_root held old new page inside (written_none (covers id first end r.id page) refl (inr (settled ∙ none)))
+        nothing (inr inside_run) = revoked_settled S r revoked not_root held old new page inside (written_none (covers id first end r.id page) refl (inl inside_run))
+
+    pub settled_after : IsNamed S → ((r : Record) → Holds S r → IsFormedRecord r) → (stack : List Stale)
+        → ((other : RecordId) (r : Record) → S.record_at other ≡ Some r → r.parent ≡ id → (page : ℕ) → holds r.place page ≡ true → first ≤ source_page r page → source_page r page < end
+        → IsRevoked S r ⊎ IsPending stack other page)
         → (other : RecordId) (page : ℕ) → IsSettled S old other page ⊎ (covers id first end other page ≡ true) → IsSettled S new other page ⊎ IsPending stack other page
-    settled_after stack pushed other page before =
+    settled_after named formed stack pushed other page before =
         elim (settling_unsettles_children S old new id first end taken other page before) [
           | inl settled ↦ inl settled
-          | inr unsettled ↦ inr (child_pending unsettled.0 unsettled.1 unsettled.2 unsettled.3)
+          | inr unsettled ↦ child_left unsettled.0 unsettled.1 unsettled.2 unsettled.3
         ]
       where
-        child_pending : (r : Record) → S.record_at other ≡ Some r → reaches other r page ≡ true → same_rights (new r.parent (source_page r page)) (old r.parent (source_page r page)) ≡ false → IsPending stack other page
-        child_pending r held reach differ =
+        child_left : (r : Record) → S.record_at other ≡ Some r → reaches other r page ≡ true → same_rights (new r.parent (source_page r page)) (old r.parent (source_page r page)) ≡ false
+            → IsSettled S new other page ⊎ IsPending stack other page
+        child_left r held reach differ =
             let c = covered id first end r.parent (source_page r page) (written_there r.parent (source_page r page) differ) in
-            pushed other r held (sym c.same) page (and_parts (holds r.place page) (nat_lt r.parent.number other.number) reach).0 c.from c.before
+            let inside : holds r.place page ≡ true = (and_parts (holds r.place page) (nat_lt r.parent.number other.number) reach).0 in
+            elim (pushed other r held (sym c.same) page inside c.from c.before) [
+              | inl revoked ↦ inl (left_settled named formed other r held revoked page inside before)
+              | inr pending ↦ inr pending
+            ]
 
 -- ---- one step
 

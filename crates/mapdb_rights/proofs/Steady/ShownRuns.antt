@@ -29,7 +29,9 @@ use Rattle.mapdb_rights.specs.Following.{AreListed}
 use Rattle.mapdb_rights.specs.HeldPlaces.{IsListed, place_of}
 use Rattle.mapdb_rights.specs.Live.{ShowUntil, ShowsOn}
 use Rattle.mapdb_rights.specs.PageRights.{is_record_into}
+use Rattle.mapdb_rights.specs.Revoked.{IsRevokedBelow}
 use Rattle.mapdb_rights.specs.Right.{rights_at}
+use Rattle.mapdb_rights.proofs.Rights.Revoked.{revoked_rights}
 use Rattle.mapdb_rights.proofs.Rights.FramesOn.{shows_on}
 use Rattle.mapdb_rights.proofs.Live.LiveRecords.{into_held}
 use Rattle.mapdb_rights.proofs.Rights.Walk.{rights_at-outside}
@@ -99,17 +101,25 @@ module _ (set : Places) (space : Space) (cached : Cached) (page : ℕ) where
       where
         of_held : is_root id ≡ false → ((r : Record) × (S.record_at id ≡ Some r) × (same_space r.space space ≡ true)) → (count : ℕ) → page + count < end → ShowsOn S id page count
         of_held other (r, at, in_space) = elim (cases_Bool (own_meets (own_place (place_of r)) page end)) [
-          | inl meeting ↦
-              stays_shows id (subst (λ (i : RecordId). Stays i end) (named id r at)
-              (h (own_place (place_of r)) (there set (owners.Space space) places are (place_of r) owned is_there.by_space) meeting))
+          | inl meeting ↦ elim is_there.by_space [
+            | inr has ↦
+                stays_shows id (subst (λ (i : RecordId). Stays i end) (named id r at)
+                (h (own_place (place_of r)) (there set (owners.Space space) places are (place_of r) owned has) meeting))
+            | inl below ↦ λ count before. shows_on S id page count (gone below (page + count) ∙ sym (gone below page))
+          ]
           | inr apart ↦ λ count before. shows_on S id page count (outside apart (page + count) (omega arith) before ∙ sym (outside apart page (omega arith) (omega arith)))
         ]
           where
             held : Holds S r
             held = subst (λ (i : RecordId). S.record_at i ≡ Some r) (sym (named id r at)) at
 
-            is_there : IsListed set r
+            is_there : IsListed S set r
             is_there = listed.places r held
+
+            gone : IsRevokedBelow S r → (q : ℕ) → rights_at S id q ≡ no_rights
+            gone below q =
+                ap (λ (i : RecordId). rights_at S i q) (sym (named id r at))
+                ∙ revoked_rights S r below.own (subst (λ (i : RecordId). is_root i ≡ false) (sym (named id r at)) other) held q
 
             owned : (place_of r).owner ≡ owners.Space space
             owned = ap owners.Space (same_space_true r.space space in_space)

@@ -11,6 +11,7 @@ use super::children::push_children;
 use super::listing::list_records;
 use super::settling::settle;
 use super::stale::Stale;
+use super::unlisting::unlist_revoked;
 use mapdb_facts::{Facts, RecordId};
 use mapdb_fpage::PAGE_LIMIT;
 use mapdb_lists::{AllChanges, Places};
@@ -37,5 +38,7 @@ pub fn settle_all(
         end: PAGE_LIMIT,
     })?;
     push_children(&mut stack, listed, facts, RecordId::ROOT, 0, PAGE_LIMIT)?;
-    settle(changes, &mut stack, listed, facts)
+    settle(changes, &mut stack, listed, facts)?;
+    unlist_revoked(listed, facts);
+    Ok(())
 }

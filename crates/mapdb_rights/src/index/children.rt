@@ -8,10 +8,10 @@ ghost use Rattle.mapdb_facts.specs.Names.{same_id, same_space};
 ghost use Rattle.mapdb_facts.specs.WellFormed.{IsFormedRecord};
 ghost use Rattle.mapdb_facts.specs.declared.names.RecordId.{RecordId};
 ghost use Rattle.mapdb_facts.specs.declared.operations.Record.{Record};
-ghost use Rattle.mapdb_lists.specs.Listing.{listed_len, own_place};
+ghost use Rattle.mapdb_lists.specs.Listing.{is_listed, listed_len, own_place};
 ghost use Rattle.mapdb_lists.specs.OwnPlaces.{AreAligned, own_list, stands};
 ghost use Rattle.mapdb_rights.specs.Following.{AreListed};
-ghost use Rattle.mapdb_rights.specs.HeldPlaces.{IsListed, place_of, source_of};
+ghost use Rattle.mapdb_rights.specs.HeldPlaces.{place_of, source_of};
 ghost use Rattle.mapdb_rights.specs.Pending.{IsPending, share, weight};
 ghost use Rattle.mapdb_rights.specs.Right.{source_page};
 
@@ -124,8 +124,8 @@ pub(crate) fn push_children(
     ensures kept { OnOk result ((id : RecordId) (page : ℕ)
         → IsPending stack.old.items id page → IsPending stack.new.items id page) }
     ensures stale { OnOk result ((r : Record) → Holds (state_of_facts facts.now) r
-        → IsFormedRecord r
-        → IsListed listed.now r → r.parent ≡ parent → (page : ℕ) → holds r.place page ≡ true
+        → IsFormedRecord r → is_listed listed.now (source_of r) ≡ true
+        → r.parent ≡ parent → (page : ℕ) → holds r.place page ≡ true
         → first ≤ source_page r page → source_page r page < end
         → IsPending stack.new.items r.id page) }
     ensures weight { OnOk result ((base : ℕ) → 0 < base → weight base stack.new.items
@@ -191,7 +191,8 @@ pub(crate) fn push_space(
     space: Space,
 ) -> Result<(), AllocError>
     requires { AreListed (state_of_facts facts.now) listed.now }
-    ensures { OnOk result ((r : Record) → Holds (state_of_facts facts.now) r → IsListed listed.now r
+    ensures { OnOk result ((r : Record) → Holds (state_of_facts facts.now) r → IsPlace r.place
+        → is_listed listed.now (place_of r) ≡ true
         → same_space space r.space ≡ true → (page : ℕ) → holds r.place page ≡ true
         → IsPending stack.new.items r.id page) }
 {

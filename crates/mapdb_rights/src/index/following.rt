@@ -8,9 +8,10 @@ ghost use Rattle.mapdb_facts.specs.declared.operations.Op.{Op};
 ghost use Rattle.mapdb_rights.specs.Following.{Stood, Stands};
 
 use super::children::push_space;
-use super::listing::list_held;
+use super::listing::{list_held, list_parent};
 use super::settling::settle;
 use super::stale::Stale;
+use super::unlisting::unlist;
 use mapdb_facts::{Facts, Record, Revocation, Space};
 use mapdb_lists::{AllChanges, Places};
 use std::alloc::{AllocError, Global};
@@ -28,6 +29,7 @@ pub fn follow_record(
     ensures { OnOk result (Stands changes.new listed.new (state_of_facts facts.now)) }
 {
     list_held(listed, facts, mapping.id)?;
+    list_parent(listed, facts, mapping.parent)?;
     let mut stack = Vec::new(alloc);
     stack.push(Stale {
         id: mapping.id,
@@ -38,17 +40,17 @@ pub fn follow_record(
 }
 
 /// Rights were taken from a part of a record: it loses them, and what has its pages from there
-/// follows.
+/// follows. Where nothing is left to revoke, the record is listed no longer.
 pub fn follow_cut(
     changes: &mut AllChanges,
-    listed: &Places,
+    listed: &mut Places,
     alloc: Global,
     facts: &Facts,
     cut: &Revocation,
 ) -> Result<(), AllocError>
     requires formed { is_formed (Op.Cut cut.now) ≡ true }
-    requires stood { Stood changes.old listed.now (Op.Cut cut.now) (state_of_facts facts.now) }
-    ensures { OnOk result (Stands changes.new listed.now (state_of_facts facts.now)) }
+    requires stood { Stood changes.old listed.old (Op.Cut cut.now) (state_of_facts facts.now) }
+    ensures { OnOk result (Stands changes.new listed.new (state_of_facts facts.now)) }
 {
     let mut stack = Vec::new(alloc);
     stack.push(Stale {
@@ -56,7 +58,9 @@ pub fn follow_cut(
         first: cut.part.first_page(),
         end: cut.part.end(),
     })?;
-    settle(changes, &mut stack, listed, facts)
+    settle(changes, &mut stack, listed, facts)?;
+    unlist(listed, facts, cut.target);
+    Ok(())
 }
 
 /// A space ended: its records lose their rights, and what has its pages from there follows.

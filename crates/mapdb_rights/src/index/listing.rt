@@ -1,7 +1,8 @@
-//! Which places are listed: each held record at its place, and at its source. The record itself is
-//! held beside them.
+//! Which places are listed: each held record at its place, and at its source, as far as something
+//! is left to revoke there. The record itself is held beside them.
 
 ghost use Rattle.std.specs.Prelude.{◌≡◌, ◌⊎◌, true, IfSome, None, OnOk, Some};
+ghost use Rattle.mapdb_fpage.specs.Place.{IsPlace};
 ghost use Rattle.mapdb_facts.specs.Facts.{state_of_facts};
 ghost use Rattle.mapdb_facts.specs.Looking.{Holds};
 ghost use Rattle.mapdb_facts.specs.Merging.{IsNamed};
@@ -12,11 +13,40 @@ ghost use Rattle.mapdb_lists.specs.Listing.{AllAligned, IsAligned, held_record, 
 ghost use Rattle.mapdb_lists.specs.Listing.{is_listed};
 ghost use Rattle.mapdb_lists.specs.declared.places.Listed.{Listed};
 ghost use Rattle.mapdb_rights.specs.Following.{AreListed};
-ghost use Rattle.mapdb_rights.specs.HeldPlaces.{AreOfHeld, IsListed, place_of, source_of};
+ghost use Rattle.mapdb_rights.specs.HeldPlaces.{AreHeldOf, AreOfHeld, HasBoth, place_of, source_of};
+ghost use Rattle.mapdb_rights.specs.Revoked.{IsRevoked};
 
+use super::unlisting::is_revoked;
 use mapdb_facts::{Facts, Record, RecordId};
 use mapdb_lists::{Listed, Owner, Places};
 use std::alloc::AllocError;
+
+/// A record's place, which stands under its space.
+pub(crate) fn place_of(mapping: &Record) -> Listed
+    ensures is { result ≡ place_of mapping.now }
+    ensures place { IsPlace mapping.now.place }
+    ensures aligned { IsAligned result }
+{
+    Listed {
+        owner: Owner::Space(mapping.space),
+        order: mapping.place.order(),
+        first: mapping.place.first_page(),
+        id: mapping.id,
+    }
+}
+
+/// A record's source, which stands under its parent.
+pub(crate) fn source_of(mapping: &Record) -> Listed
+    ensures is { result ≡ source_of mapping.now }
+    ensures aligned { IsFormedRecord mapping.now → IsAligned result }
+{
+    Listed {
+        owner: Owner::Record(mapping.parent),
+        order: mapping.place.order(),
+        first: mapping.source,
+        id: mapping.id,
+    }
+}
 
 /// Lists one place more.
 fn list_place(listed: &mut Places, place: Listed) -> Result<(), AllocError>
@@ -40,7 +70,7 @@ pub(crate) fn list_record(listed: &mut Places, mapping: &Record) -> Result<(), A
     requires formed { IsFormedRecord mapping.now }
     requires aligned { AllAligned listed.old }
     ensures aligned { OnOk result (AllAligned listed.new) }
-    ensures there { OnOk result (IsListed listed.new mapping.now) }
+    ensures there { OnOk result (HasBoth listed.new mapping.now) }
     ensures kept { OnOk result ((other : Listed) → is_listed listed.old other ≡ true
         → is_listed listed.new other ≡ true) }
     ensures no_more { OnOk result ((other : Listed) → is_listed listed.new other ≡ true
@@ -49,22 +79,9 @@ pub(crate) fn list_record(listed: &mut Places, mapping: &Record) -> Result<(), A
     ensures records { OnOk result ((id : RecordId) → held_record listed.new id
         ≡ held_with listed.old mapping.now id) }
 {
-    let order = mapping.place.order();
-    let source = Listed {
-        owner: Owner::Record(mapping.parent),
-        order,
-        first: mapping.source,
-        id: mapping.id,
-    };
-    let place = Listed {
-        owner: Owner::Space(mapping.space),
-        order,
-        first: mapping.place.first_page(),
-        id: mapping.id,
-    };
     listed.hold(mapping)?;
-    list_place(listed, source)?;
-    list_place(listed, place)
+    list_place(listed, source_of(mapping))?;
+    list_place(listed, place_of(mapping))
 }
 
 /// Lists the record that is held under a name, where there is one. Each held record stands under
@@ -74,7 +91,7 @@ pub(crate) fn list_held(listed: &mut Places, facts: &Facts, id: RecordId) -> Res
     requires held { AreOfHeld (state_of_facts facts.now) listed.old }
     ensures aligned { OnOk result (AllAligned listed.new) }
     ensures there { OnOk result ((r : Record) → (state_of_facts facts.now).record_at id ≡ Some r
-        → IsListed listed.new r) }
+        → HasBoth listed.new r) }
     ensures kept { OnOk result ((other : Listed) → is_listed listed.old other ≡ true
         → is_listed listed.new other ≡ true) }
     ensures held { OnOk result (AreOfHeld (state_of_facts facts.now) listed.new) }
@@ -89,12 +106,39 @@ pub(crate) fn list_held(listed: &mut Places, facts: &Facts, id: RecordId) -> Res
     }
 }
 
+/// Lists the place of a new child's parent again, where it may be missing: where the parent is held
+/// and revoked. There may be something to revoke below it now.
+pub(crate) fn list_parent(
+    listed: &mut Places,
+    facts: &Facts,
+    parent: RecordId,
+) -> Result<(), AllocError>
+    requires aligned { AllAligned listed.old }
+    requires held { AreOfHeld (state_of_facts facts.now) listed.old }
+    requires named { IsNamed (state_of_facts facts.now) }
+    requires records { AreHeldOf (state_of_facts facts.now) listed.old }
+    ensures aligned { OnOk result (AllAligned listed.new) }
+    ensures there { OnOk result ((p : Record) → held_record listed.old parent ≡ Some p
+        → IsRevoked (state_of_facts facts.now) p → is_listed listed.new (place_of p) ≡ true) }
+    ensures kept { OnOk result ((other : Listed) → is_listed listed.old other ≡ true
+        → is_listed listed.new other ≡ true) }
+    ensures held { OnOk result (AreOfHeld (state_of_facts facts.now) listed.new) }
+    ensures records { (id : RecordId) → held_record listed.new id ≡ held_record listed.old id }
+{
+    match listed.record(parent) {
+        Some(mapping) if is_revoked(facts, &mapping) => list_place(listed, place_of(&mapping)),
+        _ => Ok(()),
+    }
+}
+
 /// Lists each held record, where none was held before.
 pub(crate) fn list_records(listed: &mut Places, facts: &Facts) -> Result<(), AllocError>
     requires aligned { AllAligned listed.old }
     requires held { AreOfHeld (state_of_facts facts.now) listed.old }
     requires none { (id : RecordId) → held_record listed.old id ≡ None }
-    ensures { OnOk result (AreListed (state_of_facts facts.now) listed.new) }
+    ensures listed { OnOk result (AreListed (state_of_facts facts.now) listed.new) }
+    ensures all { OnOk result ((r : Record) → Holds (state_of_facts facts.now) r
+        → HasBoth listed.new r) }
 {
     for mapping in facts.records() {
         list_record(listed, &mapping)?;

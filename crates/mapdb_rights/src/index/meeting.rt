@@ -11,11 +11,15 @@ impl RightsIndex {
     ghost use Rattle.std.specs.Prelude.{◌≡◌, Ok, None, All, IfOk, IfSome, IsSome, false, true};
     ghost use Rattle.mapdb_facts.specs.Facts.{records_of_facts, state_of_facts};
     ghost use Rattle.mapdb_facts.specs.WellFormed.{IsFormedRecord};
+    ghost use Rattle.mapdb_rights.specs.AllBut.{IsAllBut};
     ghost use Rattle.mapdb_rights.specs.Index.{KeepsUp};
     ghost use Rattle.mapdb_rights.specs.Meeting.{children_of, holders_of};
+    ghost use Rattle.mapdb_rights.specs.Revoked.{IsRevoked, IsRevokedBelow};
 
     /// The records of a space whose places share pages with this one, in ascending order of name.
-    /// None where the index is absent. An error where memory ran out for the list.
+    /// Some may be left out that have lost each right at each of their pages, and so have their
+    /// children: an Unmap has nothing to revoke there. None where the index is absent. An error
+    /// where memory ran out for the list.
     pub fn holders(
         &self,
         facts: &Facts,
@@ -25,8 +29,9 @@ impl RightsIndex {
         requires { KeepsUp self.now (state_of_facts facts.now) }
         ensures absent { self.now.absent ≡ true → result ≡ Ok None }
         ensures there { self.now.absent ≡ false → IfOk result (λ found. IsSome found) }
-        ensures holders { IfOk result (λ found. IfSome found (λ list. list.items
-            ≡ holders_of (records_of_facts facts.now) space part.now)) }
+        ensures holders { IfOk result (λ found. IfSome found (λ list.
+            IsAllBut (IsRevokedBelow (state_of_facts facts.now))
+            (holders_of (records_of_facts facts.now) space part.now) list.items)) }
         ensures formed { IfOk result (λ found. IfSome found
             (λ list. All IsFormedRecord list.items)) }
     {
@@ -38,8 +43,8 @@ impl RightsIndex {
     }
 
     /// The children of a record, or of a name that is not held, whose sources share pages with this
-    /// place, in ascending order of name. None where the index is absent. An error where memory ran
-    /// out for the list.
+    /// place, in ascending order of name. Some may be left out that have lost each right at each of
+    /// their pages. None where the index is absent. An error where memory ran out for the list.
     pub fn children(
         &self,
         facts: &Facts,
@@ -49,8 +54,9 @@ impl RightsIndex {
         requires { KeepsUp self.now (state_of_facts facts.now) }
         ensures absent { self.now.absent ≡ true → result ≡ Ok None }
         ensures there { self.now.absent ≡ false → IfOk result (λ found. IsSome found) }
-        ensures children { IfOk result (λ found. IfSome found (λ list. list.items
-            ≡ children_of (records_of_facts facts.now) parent part.now)) }
+        ensures children { IfOk result (λ found. IfSome found (λ list.
+            IsAllBut (IsRevoked (state_of_facts facts.now))
+            (children_of (records_of_facts facts.now) parent part.now) list.items)) }
         ensures formed { IfOk result (λ found. IfSome found
             (λ list. All IsFormedRecord list.items)) }
     {

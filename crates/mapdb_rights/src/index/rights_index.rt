@@ -91,7 +91,7 @@ impl RightsIndex {
                 facts,
                 mapping,
             ),
-            Op::Cut(cut) => follow_cut(&mut self.changes, &self.listed, self.alloc, facts, cut),
+            Op::Cut(cut) => follow_cut(&mut self.changes, &mut self.listed, self.alloc, facts, cut),
             Op::Closed(space) => follow_end(
                 &mut self.changes,
                 &self.listed,

@@ -11,8 +11,10 @@ ghost use Rattle.mapdb_lists.specs.Listing.{AllAligned, is_listed, meets};
 ghost use Rattle.mapdb_lists.specs.OwnPlaces.{AreAligned, own_list, own_meets, stands};
 ghost use Rattle.mapdb_lists.specs.declared.own_places.OwnPlace.{OwnPlace};
 ghost use Rattle.mapdb_lists.specs.declared.places.Listed.{Listed};
+ghost use Rattle.mapdb_rights.specs.AllBut.{IsAllBut};
 ghost use Rattle.mapdb_rights.specs.Following.{AreListed};
 ghost use Rattle.mapdb_rights.specs.Meeting.{is_named, record_if, shares_part};
+ghost use Rattle.mapdb_rights.specs.Revoked.{MayGo};
 
 use super::listing::record_under;
 use mapdb_facts::{Facts, Record, RecordId};
@@ -126,7 +128,8 @@ fn named_sharing(
     Ok(found)
 }
 
-/// All records that are the owner's and share pages with the place, in ascending order of name.
+/// All records that are the owner's and share pages with the place, in ascending order of name, but
+/// for some of which nothing is left to revoke.
 pub(crate) fn all_sharing(
     alloc: Global,
     listed: &Places,
@@ -135,8 +138,8 @@ pub(crate) fn all_sharing(
     part: &Fpage,
 ) -> Result<Vec<Record>, AllocError>
     requires { AreListed (state_of_facts facts.now) listed.now }
-    ensures sharing { IfOk result (λ found. found.items
-        ≡ filter (shares_part owner part.now) (records_of_facts facts.now)) }
+    ensures sharing { IfOk result (λ found. IsAllBut (MayGo (state_of_facts facts.now) owner)
+        (filter (shares_part owner part.now) (records_of_facts facts.now)) found.items) }
     ensures formed { IfOk result (λ found. All IsFormedRecord found.items) }
 {
     let mut names = names_meeting(alloc, listed, owner, part.first_page(), part.end())?;

@@ -5,7 +5,6 @@ use Rattle.mapdb_facts.specs.Names.{root}
 use Rattle.mapdb_facts.specs.State.{State}
 use Rattle.mapdb_facts.specs.declared.names.RecordId.{RecordId}
 use Rattle.mapdb_lists.specs.Changes.{cached_in}
-use Rattle.mapdb_lists.proofs.Lists.Results.{on_both}
 use Rattle.mapdb_rights.proofs.Rights.SourcePages.{source_below}
 use Rattle.mapdb_rights.specs.CachedFrames.{AreFrames}
 use Rattle.mapdb_rights.specs.Pending.{AreSettledBut, IsPending}
@@ -22,18 +21,16 @@ settle-requires-clause-settled c =
     (left_from_nothing S c.push_children.new.stack.items
     (λ page below. c.in_ok-push_children.ensures.kept root page (rw c.in_ok-push.ensures.items (pending_last _ _ root page (to_covers root 0 page_limit page (omega arith) below))))
     (λ id r held parent page inside.
-    let named = c.in_ok-list_records.ensures.named id r held in
+    let named = c.in_ok-list_records.ensures.listed.named id r held in
     let own : S.record_at r.id ≡ Some r = ap S.record_at named ∙ held in
-    let formed = c.in_ok-list_records.ensures.formed r own in
-    let listed = c.in_ok-list_records.ensures.places r own in
-    let below = source_below r page listed.place formed inside in
+    let formed = c.in_ok-list_records.ensures.listed.formed r own in
+    let both = c.in_ok-list_records.ensures.all r own in
+    let below = source_below r page both.place formed inside in
     subst (λ (o : RecordId). IsPending c.push_children.new.stack.items o page) named
-    (c.in_ok-push_children.ensures.stale r own formed listed parent page inside (omega arith) below)))
+    (c.in_ok-push_children.ensures.stale r own formed both.by_parent parent page inside (omega arith) below)))
 
 pub settle-requires-clause-frames : goal.settle-requires-clause-frames
 settle-requires-clause-frames c = subst (λ e. AreFrames (state_of_facts c.args.facts.now) e) (sym c.requires.changes) (no_change_frames (state_of_facts c.args.facts.now))
 
 pub returns : goal.returns
-returns c =
-    on_both c.settle.result (λ are frames. record { rights = are; frames = frames; listed_there = c.in_ok-list_records.ensures })
-    c.settle.ensures.rights c.settle.ensures.frames
+returns c = record { rights = c.in_ok-settle.ensures.rights; frames = c.in_ok-settle.ensures.frames; listed_there = c.unlist_revoked.ensures }

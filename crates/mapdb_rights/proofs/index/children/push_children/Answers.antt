@@ -17,7 +17,7 @@ pub returns-in-Some-clause-stale : goal.returns-in-Some-clause-stale
 returns-in-Some-clause-stale c =
     on_ok c.push_sources.result
     (λ stale r held formed listed parent.
-    stale r held parent (there c.args.listed.now (owners.Record c.args.parent) (own_list c.in-Some.own.now) (sym c.in-Some.ensures) (source_of r) (ap owners.Record parent) listed.by_parent))
+    stale r held parent (there c.args.listed.now (owners.Record c.args.parent) (own_list c.in-Some.own.now) (sym c.in-Some.ensures) (source_of r) (ap owners.Record parent) listed))
     c.push_sources.ensures.stale
 
 pub returns-in-Some-clause-weight : goal.returns-in-Some-clause-weight
@@ -30,4 +30,4 @@ returns-in-Some-clause-weight c =
 
 pub returns-in-None-clause-stale : goal.returns-in-None-clause-stale
 returns-in-None-clause-stale c r held formed listed parent =
-    absurd (false≢true (there c.args.listed.now (owners.Record c.args.parent) [] (sym c.in-None.ensures) (source_of r) (ap owners.Record parent) listed.by_parent))
+    absurd (false≢true (there c.args.listed.now (owners.Record c.args.parent) [] (sym c.in-None.ensures) (source_of r) (ap owners.Record parent) listed))

@@ -6,7 +6,6 @@ use Rattle.mapdb_facts.specs.Facts.{state_of_facts}
 use Rattle.mapdb_facts.specs.Names.{same_id}
 use Rattle.mapdb_facts.specs.declared.operations.Op.TheVariants.{Cut}
 use Rattle.mapdb_lists.specs.Changes.{cached_in}
-use Rattle.mapdb_lists.proofs.Lists.Results.{on_both}
 use Rattle.mapdb_rights.proofs.Settling.Followed.{frames_by_op, left_by_op, listed_by_cut}
 use Rattle.mapdb_rights.proofs.Settling.Pendings.{pending_last}
 use Rattle.mapdb_rights.proofs.index.following.follow_cut.Goals as goal
@@ -26,11 +25,9 @@ settle-requires-clause-settled c =
 pub settle-requires-clause-frames : goal.settle-requires-clause-frames
 settle-requires-clause-frames c = frames_by_op (state_of_facts c.args.facts.now) c.requires.stood.before (Cut c.args.cut.now) c.args.changes.now.own.entries c.requires.stood.is c.requires.stood.stood.frames
 
+pub unlist-requires : goal.unlist-requires
+unlist-requires c =
+    listed_by_cut (state_of_facts c.args.facts.now) c.requires.stood.before c.args.cut.now c.args.listed.now c.requires.stood.is c.requires.stood.stood.listed_there
+
 pub returns : goal.returns
-returns c =
-    on_both c.settle.result
-    (λ are frames. record {
-      rights = are;
-      frames = frames;
-      listed_there = listed_by_cut (state_of_facts c.args.facts.now) c.requires.stood.before c.args.cut.now c.args.listed.now c.requires.stood.is c.requires.stood.stood.listed_there;
-    }) c.settle.ensures.rights c.settle.ensures.frames
+returns c = record { rights = c.in_ok-settle.ensures.rights; frames = c.in_ok-settle.ensures.frames; listed_there = c.unlist.ensures }

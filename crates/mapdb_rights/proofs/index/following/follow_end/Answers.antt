@@ -1,4 +1,6 @@
-use Rattle.std.proofs.Common.{◌≡◌, false, Some, ap, subst, ◌∙◌}
+use Rattle.std.proofs.Common.{◌≡◌, false, Some, ap, inl, inr, subst, sym, ◌∙◌}
+use Rattle.std.proofs.lemmas.Bool.{false≢true}
+use Rattle.mapdb_fpage.specs.RightSets.{is_empty}
 use Rattle.mapdb_facts.specs.Facts.{state_of_facts}
 use Rattle.mapdb_facts.specs.Names.{is_root}
 use Rattle.mapdb_facts.specs.State.{State}
@@ -9,6 +11,8 @@ use Rattle.mapdb_lists.specs.Changes.{cached_in}
 use Rattle.mapdb_lists.proofs.Lists.Results.{on_both}
 use Rattle.mapdb_rights.specs.Following.{AreListed}
 use Rattle.mapdb_rights.specs.Pending.{IsPending}
+use Rattle.mapdb_rights.specs.Right.{rights_at}
+use Rattle.mapdb_rights.proofs.Rights.Revoked.{revoked_rights}
 use Rattle.mapdb_rights.proofs.Settling.Ended.{numbered_is_other, rights_in_place}
 use Rattle.mapdb_rights.proofs.Settling.Followed.{frames_by_op, first_alone, left_by_op, listed_by_end}
 use Rattle.mapdb_rights.proofs.index.following.follow_end.Goals as goal
@@ -34,7 +38,14 @@ settle-requires-clause-settled c =
     let own : S.record_at r.id ≡ Some r = ap S.record_at named ∙ held in
     let other : is_root id ≡ false = subst (λ (o : RecordId). is_root o ≡ false) named (numbered_is_other r.id (there.formed r own).has_number) in
     subst (λ (o : RecordId). IsPending c.push_space.new.stack.items o page) named
-    (c.in_ok-push_space.ensures r own (there.places r own) unsettles.2 page (rights_in_place c.requires.stood.before id r page other unsettles.1 unsettles.3)))
+    (c.in_ok-push_space.ensures r own (there.places r own).place
+    (elim (c.requires.stood.stood.listed_there.places r (ap c.requires.stood.before.record_at named ∙ unsettles.1)).by_space [
+      | inl below ↦ absurd (false≢true (sym unsettles.3 ∙ ap is_empty (
+          ap (λ (o : RecordId). rights_at c.requires.stood.before o page) (sym named)
+          ∙ revoked_rights c.requires.stood.before r below.own (numbered_is_other r.id (there.formed r own).has_number) (ap c.requires.stood.before.record_at named ∙ unsettles.1) page)))
+      | inr listed ↦ listed
+    ])
+    unsettles.2 page (rights_in_place c.requires.stood.before id r page other unsettles.1 unsettles.3)))
 
 pub settle-requires-clause-frames : goal.settle-requires-clause-frames
 settle-requires-clause-frames c = frames_by_op (state_of_facts c.args.facts.now) c.requires.stood.before (Closed c.args.space) c.args.changes.now.own.entries c.requires.stood.is c.requires.stood.stood.frames

@@ -1,14 +1,14 @@
-use Rattle.std.proofs.Common.{◌∙◌}
+use Rattle.std.proofs.Common.{◌∙◌, sym}
 use Rattle.std.specs.Prelude.{◌&&◌, nat_le, nat_lt}
 use Rattle.std.proofs.lemmas.Bool.{and_from}
 use Rattle.mapdb_fpage.specs.Place.{holds}
 use Rattle.mapdb_facts.specs.Facts.{state_of_facts}
 use Rattle.mapdb_facts.specs.Names.{same_id}
-use Rattle.mapdb_facts.specs.State.{said}
+use Rattle.mapdb_facts.specs.State.{State, said}
 use Rattle.mapdb_facts.specs.declared.operations.Op.TheVariants.{Born}
 use Rattle.mapdb_lists.specs.Changes.{cached_in}
 use Rattle.mapdb_lists.proofs.Lists.Results.{on_both}
-use Rattle.mapdb_rights.proofs.Settling.Followed.{frames_by_op, left_by_op, listed_by_record, of_held_on}
+use Rattle.mapdb_rights.proofs.Settling.Followed.{frames_by_op, left_by_op, listed_by_record, listed_on, of_held_on}
 use Rattle.mapdb_rights.proofs.Settling.HeldRecords.{records_by_record}
 use Rattle.mapdb_rights.proofs.Settling.Pendings.{pending_last}
 use Rattle.mapdb_rights.proofs.index.following.follow_record.Goals as goal
@@ -19,14 +19,29 @@ list_held-requires c = record {
   held = of_held_on (state_of_facts c.args.facts.now) c.requires.stood.before (said (Born c.args.mapping.now)) c.args.listed.now c.requires.stood.is c.requires.stood.stood.listed_there.held;
 }
 
+pub list_parent-requires : goal.list_parent-requires
+list_parent-requires c = record {
+  aligned = c.in_ok-list_held.ensures.aligned;
+  held = c.in_ok-list_held.ensures.held;
+  named = c.in_ok-list_held.ensures.held_named;
+  records = λ id r at.
+      sym (records_by_record c.args.listed.now c.list_held.new.listed (state_of_facts c.args.facts.now) c.requires.stood.before c.args.mapping.now c.requires.stood.is
+      c.in_ok-list_held.ensures.held_named c.in_ok-list_held.ensures.records c.requires.stood.stood.listed_there.by_name id) ∙ at;
+}
+
 pub settle-requires-clause-listed : goal.settle-requires-clause-listed
 settle-requires-clause-listed c =
-    listed_by_record c.args.listed.now c.list_held.new.listed c.in_ok-list_held.ensures.kept
-    (state_of_facts c.args.facts.now) c.requires.stood.before c.args.mapping.now c.requires.stood.is
-    c.in_ok-list_held.ensures.there c.requires.stood.stood.listed_there c.in_ok-list_held.ensures.aligned c.in_ok-list_held.ensures.held
-    c.in_ok-list_held.ensures.held_named c.in_ok-list_held.ensures.held_formed
-    (records_by_record c.args.listed.now c.list_held.new.listed (state_of_facts c.args.facts.now) c.requires.stood.before c.args.mapping.now c.requires.stood.is
-    c.in_ok-list_held.ensures.held_named c.in_ok-list_held.ensures.records c.requires.stood.stood.listed_there.by_name)
+    let S : State = state_of_facts c.args.facts.now in
+    let there = c.requires.stood.stood.listed_there in
+    let held = c.in_ok-list_held.ensures in
+    let more = c.in_ok-list_parent.ensures in
+    let by_name = records_by_record c.args.listed.now c.list_held.new.listed S c.requires.stood.before c.args.mapping.now c.requires.stood.is held.held_named held.records there.by_name in
+    listed_by_record c.args.listed.now c.list_parent.new.listed (λ e has. more.kept e (held.kept e has))
+    S c.requires.stood.before c.args.mapping.now c.requires.stood.is
+    (λ r at. listed_on c.list_held.new.listed c.list_parent.new.listed more.kept r (held.there r at))
+    (λ p at revoked. more.there p (by_name c.args.mapping.now.parent ∙ at) revoked)
+    (λ id. more.records id ∙ by_name id)
+    there more.aligned more.held held.held_named held.held_formed
 
 pub settle-requires-clause-settled : goal.settle-requires-clause-settled
 settle-requires-clause-settled c =
@@ -44,10 +59,15 @@ returns c = on_both c.settle.result (λ are frames. record {
   rights = are;
   frames = frames;
   listed_there =
-      listed_by_record c.args.listed.now c.list_held.new.listed c.in_ok-list_held.ensures.kept
-      (state_of_facts c.args.facts.now) c.requires.stood.before c.args.mapping.now c.requires.stood.is
-      c.in_ok-list_held.ensures.there c.requires.stood.stood.listed_there c.in_ok-list_held.ensures.aligned c.in_ok-list_held.ensures.held
-      c.in_ok-list_held.ensures.held_named c.in_ok-list_held.ensures.held_formed
-      (records_by_record c.args.listed.now c.list_held.new.listed (state_of_facts c.args.facts.now) c.requires.stood.before c.args.mapping.now c.requires.stood.is
-      c.in_ok-list_held.ensures.held_named c.in_ok-list_held.ensures.records c.requires.stood.stood.listed_there.by_name);
+      let S : State = state_of_facts c.args.facts.now in
+      let there = c.requires.stood.stood.listed_there in
+      let held = c.in_ok-list_held.ensures in
+      let more = c.in_ok-list_parent.ensures in
+      let by_name = records_by_record c.args.listed.now c.list_held.new.listed S c.requires.stood.before c.args.mapping.now c.requires.stood.is held.held_named held.records there.by_name in
+      listed_by_record c.args.listed.now c.list_parent.new.listed (λ e has. more.kept e (held.kept e has))
+      S c.requires.stood.before c.args.mapping.now c.requires.stood.is
+      (λ r at. listed_on c.list_held.new.listed c.list_parent.new.listed more.kept r (held.there r at))
+      (λ p at revoked. more.there p (by_name c.args.mapping.now.parent ∙ at) revoked)
+      (λ id. more.records id ∙ by_name id)
+      there more.aligned more.held held.held_named held.held_formed;
 }) c.settle.ensures.rights c.settle.ensures.frames

@@ -4,7 +4,7 @@ use Rattle.mapdb_facts.specs.Looking.{Holds}
 use Rattle.mapdb_facts.specs.declared.operations.Record.{Record}
 use Rattle.mapdb_lists.specs.Listing.{held_with}
 use Rattle.mapdb_lists.proofs.Lists.Results.{on_ok}
-use Rattle.mapdb_rights.specs.HeldPlaces.{IsListed}
+use Rattle.mapdb_rights.specs.HeldPlaces.{HasBoth}
 use Rattle.mapdb_facts.proofs.Lists.SameNames.{some_same}
 use Rattle.mapdb_rights.proofs.Settling.Followed.{of_held_with}
 use Rattle.mapdb_rights.proofs.index.listing.list_held.Goals as goal
@@ -12,7 +12,7 @@ use Rattle.mapdb_rights.proofs.index.listing.list_held.Goals as goal
 pub returns-in-Some-clause-there : goal.returns-in-Some-clause-there
 returns-in-Some-clause-there c =
     on_ok c.list_record.result
-    (λ there r at. subst (λ (s : Record). IsListed c.list_record.new.listed s) (some_same c.in-Some.mapping r (sym c.in-Some.is ∙ c.record.ensures.held ∙ at)) there)
+    (λ there r at. subst (λ (s : Record). HasBoth c.list_record.new.listed s) (some_same c.in-Some.mapping r (sym c.in-Some.is ∙ c.record.ensures.held ∙ at)) there)
     c.list_record.ensures.there
 
 pub returns-in-Some-clause-records : goal.returns-in-Some-clause-records

@@ -1,7 +1,6 @@
 use Rattle.std.proofs.Common.{◌≡◌, true, subst, sym, ◌∙◌, inl, inr}
 use Rattle.mapdb_lists.specs.Listing.{is_listed}
 use Rattle.mapdb_lists.specs.declared.places.Listed.{Listed}
-use Rattle.mapdb_lists.specs.declared.places.Owner.TheVariants.{Record, Space}
 use Rattle.mapdb_lists.proofs.Lists.Results.{on_any, on_both, on_ok}
 use Rattle.mapdb_rights.specs.HeldPlaces.{source_of}
 use Rattle.mapdb_rights.proofs.index.listing.list_record.Goals as goal
@@ -20,27 +19,21 @@ returns-clause-records c =
 pub returns-clause-there : goal.returns-clause-there
 returns-clause-there c =
     let r = c.args.mapping.now in
-    let order : c.order-order.result ≡ r.place.order = c.order-order.ensures.order in
-    let first : c.first_page.result ≡ r.place.first_page = c.first_page.ensures.page in
     on_both c.list_place-2.result
     (λ there kept. record {
-      by_space = subst (λ (e : Listed). is_listed c.list_place-2.new.listed e ≡ true) (λ i. record { owner = Space r.space; order = order i; first = first i; id = r.id }) there;
-      by_parent = kept (source_of r) (subst (λ (e : Listed). is_listed c.list_place.new.listed e ≡ true)
-          (λ i. record { owner = Record r.parent; order = order i; first = r.source; id = r.id }) c.in_ok-list_place.ensures.there);
-      place = c.order-order.ensures.place;
+      by_space = subst (λ (e : Listed). is_listed c.list_place-2.new.listed e ≡ true) c.place_of.ensures.is there;
+      by_parent = kept (source_of r) (subst (λ (e : Listed). is_listed c.list_place.new.listed e ≡ true) c.source_of.ensures.is c.in_ok-list_place.ensures.there);
+      place = c.place_of.ensures.place;
     })
     c.list_place-2.ensures.there c.list_place-2.ensures.kept
 
 pub returns-clause-no_more : goal.returns-clause-no_more
 returns-clause-no_more c =
-    let r = c.args.mapping.now in
-    let order : c.order-order.result ≡ r.place.order = c.order-order.ensures.order in
-    let first : c.first_page.result ≡ r.place.first_page = c.first_page.ensures.page in
     on_ok c.list_place-2.result
     (λ no_more e has. elim (no_more e has) [
-      | inl here ↦ inl (here ∙ λ i. record { owner = Space r.space; order = order i; first = first i; id = r.id })
+      | inl here ↦ inl (here ∙ c.place_of.ensures.is)
       | inr before ↦ elim (c.in_ok-list_place.ensures.no_more e before) [
-        | inl source ↦ inr (inl (source ∙ λ i. record { owner = Record r.parent; order = order i; first = r.source; id = r.id }))
+        | inl source ↦ inr (inl (source ∙ c.source_of.ensures.is))
         | inr stood ↦ inr (inr (sym (c.in_ok-hold.ensures.listed e) ∙ stood))
       ]
     ])

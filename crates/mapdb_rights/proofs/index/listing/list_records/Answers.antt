@@ -5,7 +5,7 @@ use Rattle.mapdb_facts.specs.Records.{IsAmong}
 use Rattle.mapdb_facts.specs.State.{State}
 use Rattle.mapdb_facts.specs.declared.operations.Record.{Record}
 use Rattle.mapdb_lists.specs.Listing.{held_record}
-use Rattle.mapdb_rights.specs.HeldPlaces.{IsListed}
+use Rattle.mapdb_rights.specs.HeldPlaces.{HasBoth}
 use Rattle.mapdb_rights.proofs.Settling.Followed.{listed_on, of_held_with}
 use Rattle.mapdb_rights.proofs.Settling.HeldRecords.{held_here, held_of_more, held_still}
 use Rattle.mapdb_rights.proofs.index.listing.list_records.Goals as goal
@@ -25,7 +25,7 @@ loop-mapping-preserved c =
         | inr listed ↦ inr (listed_on c.loop-mapping.listed c.list_record.new.listed c.in_ok-list_record.ensures.kept s listed)
         | inl among ↦ elim (subst (λ (rs : List Record). IsAmong s rs) next among) [
           | inr more ↦ inl more
-          | inl one ↦ inr (subst (λ (x : Record). IsListed c.list_record.new.listed x) one c.in_ok-list_record.ensures.there)
+          | inl one ↦ inr (subst (λ (x : Record). HasBoth c.list_record.new.listed x) one c.in_ok-list_record.ensures.there)
         ]
       ];
       held = of_held_with (state_of_facts c.args.facts.now) c.loop-mapping.listed c.list_record.new.listed r (left r (inl refl))

@@ -1,4 +1,4 @@
-use Rattle.std.proofs.Common.{◌≡◌, Some, ap, sym, subst, ◌∙◌, arith, inl}
+use Rattle.std.proofs.Common.{◌≡◌, Some, ap, sym, subst, ◌∙◌, arith, inl, inr}
 use Rattle.mapdb_facts.specs.Exact.{exact_rights}
 use Rattle.mapdb_facts.specs.Facts.{state_of_facts}
 use Rattle.mapdb_facts.specs.State.{State}
@@ -26,13 +26,15 @@ returns-clause-settled c =
     let step = c.requires.step in
     on_ok c.push_children.result
     (λ pushed. settled_after S (cached_in c.args.changes.now.own.entries) (cached_in c.write.new.changes.own.entries) c.args.stale.id c.args.stale.first c.args.end c.args.next.change.rights
-    (λ q from before_end. step.follows.rights q from (omega arith)) c.in_ok-write.ensures.cached c.push_children.new.stack.items
+    (λ q from before_end. step.follows.rights q from (omega arith)) c.in_ok-write.ensures.cached c.requires.listed.named c.requires.listed.formed c.push_children.new.stack.items
     (λ other r held parent page inside from before.
     let named = c.requires.listed.named other r held in
     let own : S.record_at r.id ≡ Some r = ap S.record_at named ∙ held in
-    let listed = c.requires.listed.places r own in
-    subst (λ (o : RecordId). IsPending c.push_children.new.stack.items o page) named
-    (pushed r own (c.requires.listed.formed r own) listed parent page inside from before)))
+    elim (c.requires.listed.places r own).by_parent [
+      | inl revoked ↦ inl revoked
+      | inr listed ↦ inr (subst (λ (o : RecordId). IsPending c.push_children.new.stack.items o page) named
+          (pushed r own (c.requires.listed.formed r own) listed parent page inside from before))
+    ]))
     c.push_children.ensures.stale
 
 pub returns-clause-frames : goal.returns-clause-frames

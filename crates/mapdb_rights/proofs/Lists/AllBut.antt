@@ -1,0 +1,27 @@
+-- Lists from which some members were left out.
+use Rattle.std.proofs.Common.{◌≡◌, Bool, true, false, refl, sym, ◌∙◌, List, [], ◌∷◌, inl, inr}
+use Rattle.std.specs.Prelude.{◌⊎◌, ◌&&◌, filter, if◌then◌else◌}
+use Rattle.std.proofs.lemmas.Bool.{true≢false}
+use Rattle.mapdb_facts.specs.Records.{IsAmong}
+use Rattle.mapdb_rights.specs.AllBut.{IsAllBut}
+
+-- none need be
+pub all_stay : {A : Type 0} (may_go : A → Type 0) (all left : List A) → left ≡ all → IsAllBut may_go all left
+all_stay may_go [] left is = is
+all_stay may_go (x ∷ all) left is = inr (all, is, all_stay may_go all all refl)
+
+-- what passes a second test too is what passes the first, without those that fail the second
+module _ {A : Type 0} (may_go : A → Type 0) (test keep : A → Bool) where
+  pub all_but_failing : (all : List A) → ((x : A) → IsAmong x all → test x ≡ true → may_go x ⊎ (keep x ≡ true))
+      → IsAllBut may_go (filter test all) (filter (λ x. test x && keep x) all)
+  all_but_failing [] each = refl
+  all_but_failing (x ∷ all) each = by (test x) refl (keep x) refl (all_but_failing all (λ y k. each y (inr k)))
+    where
+      by : (t : Bool) → test x ≡ t → (k : Bool) → keep x ≡ k → IsAllBut may_go (filter test all) (filter (λ y. test y && keep y) all)
+          → IsAllBut may_go (if t then x ∷ filter test all else filter test all) (if t && k then x ∷ filter (λ y. test y && keep y) all else filter (λ y. test y && keep y) all)
+      by false fails k kept rest = rest
+      by true passes true kept rest = inr (filter (λ y. test y && keep y) all, refl, rest)
+      by true passes false gone rest = elim (each x (inl refl) passes) [
+        | inl may ↦ inl (may, rest)
+        | inr kept ↦ absurd (true≢false (sym kept ∙ gone))
+      ]
