@@ -1,7 +1,7 @@
 -- One call more from a seat, and one message more on a link.
-use Rattle.std.proofs.Common.{◌≡◌, ◌∙◌, ℕ, ◌+◌, ◌<◌, List, [], ◌∷◌, ◌++◌, refl, ap, sym, append_assoc, append-nil, get_or, length, take}
+use Rattle.std.proofs.Common.{◌≡◌, ◌∙◌, ℕ, ◌+◌, ◌<◌, Bool, true, false, inl, inr, List, [], ◌∷◌, ◌++◌, refl, ap, sym, append_assoc, append-nil, get_or, length, take}
 use Rattle.std.proofs.lemmas.List.{take_more}
-use Rattle.std.specs.Prelude.{Ok}
+use Rattle.std.specs.Prelude.{◌^◌, Err, Ok, Result, if◌then◌else◌, nat_lt}
 use Rattle.mapdb_facts.specs.declared.operations.Op.{Op}
 use Rattle.mapdb_replica.specs.declared.commands.Command.{Command}
 use Rattle.mapdb_node.specs.Histories.{call}
@@ -10,7 +10,10 @@ use Rattle.mapdb_node.specs.declared.events.NodeEvent.TheVariants.{Issue, OwnAt,
 use Rattle.mapdb_node.specs.declared.events.NodeReply.{NodeReply}
 use Rattle.mapdb_node.specs.declared.events.NodeReply.TheVariants as reply
 use Rattle.mapdb_node.specs.declared.seats.Call.{Call}
-use Rattle.mapdb_exchange.specs.Calls.{commands_in, held_in, ops_in, taken_in, with_event_command, with_held, with_ops}
+use Rattle.mapdb_exchange.specs.Calls.{IsToldSince, commands_in, faults_in, held_in, issued_in, ops_in, own_in, place_after, taken_in, with_error, with_event_command, with_fault, with_held, with_ops}
+use Rattle.mapdb_exchange.specs.declared.faults.NodeFault.TheVariants.{Own}
+use Rattle.mapdb_exchange.specs.declared.faults.WorkFault.{WorkFault}
+use Rattle.mapdb_exchange.specs.declared.faults.WorkFault.TheVariants.{Node}
 use Rattle.mapdb_exchange.specs.declared.messages.Batch.{Batch as BatchOf}
 use Rattle.mapdb_exchange.specs.declared.messages.Message.{Message}
 use Rattle.mapdb_exchange.proofs.Numbering.{batches_put, fin_put}
@@ -82,6 +85,60 @@ issued_more start script i command cs place answer within here before =
 -- what is asked for an own operation is no command
 pub own_is_none : (cs : List Call) (own place : ℕ) (answer : NodeReply) → commands_in (cs ++ call (OwnAt own) place answer ∷ []) ≡ commands_in cs
 own_is_none cs own place answer = commands_more cs (call (OwnAt own) place answer) ∙ append-nil (commands_in cs)
+
+with_error_more : {A : Type 0} (o : Result A WorkFault) (xs ys : List WorkFault) → with_error o (xs ++ ys) ≡ with_error o xs ++ ys
+with_error_more (Ok value) xs ys = refl
+with_error_more (Err fault) xs ys = refl
+
+with_fault_more : (event : NodeEvent) (answer : NodeReply) (xs ys : List WorkFault) → with_fault event answer (xs ++ ys) ≡ with_fault event answer xs ++ ys
+with_fault_more (Take op) answer xs ys = with_error_more (taken_in answer) xs ys
+with_fault_more (Issue command) answer xs ys = with_error_more (issued_in answer) xs ys
+with_fault_more (OwnAt place) answer xs ys = with_error_more (own_in answer) xs ys
+with_fault_more (Served space page) answer xs ys = refl
+
+faults_more : (cs : List Call) (c : Call) → faults_in (cs ++ c ∷ []) ≡ faults_in cs ++ with_fault c.event c.reply []
+faults_more [] c = refl
+faults_more (x ∷ cs) c =
+    ap (λ (faults : List WorkFault). with_fault x.event x.reply faults) (faults_more cs c)
+    ∙ with_fault_more x.event x.reply (faults_in cs) (with_fault c.event c.reply [])
+
+pub no_error : {A : Type 0} (o : Result A WorkFault) (value : A) → o ≡ Ok value → with_error o [] ≡ []
+no_error o value is = ap (λ p. with_error p []) is
+
+pub an_error : {A : Type 0} (o : Result A WorkFault) (fault : WorkFault) → o ≡ Err fault → with_error o [] ≡ fault ∷ []
+an_error o fault is = ap (λ p. with_error p []) is
+
+module _ (cs : List Call) (event : NodeEvent) (place : ℕ) (answer : NodeReply) where
+  abbrev next : List Call
+  next = cs ++ call event place answer ∷ []
+
+  -- one reply more told no fault
+  pub none_more : with_fault event answer [] ≡ [] → faults_in next ≡ faults_in cs
+  none_more none = faults_more cs (call event place answer) ∙ ap (λ (faults : List WorkFault). faults_in cs ++ faults) none ∙ append-nil (faults_in cs)
+
+  -- one reply more told this fault
+  pub told_more : (fault : WorkFault) → with_fault event answer [] ≡ fault ∷ [] → faults_in next ≡ faults_in cs ++ fault ∷ []
+  told_more fault told = faults_more cs (call event place answer) ∙ ap (λ (faults : List WorkFault). faults_in cs ++ faults) told
+
+-- a reply that told an own operation told no fault
+pub own_told_none : (cs : List Call) (own place : ℕ) (answer : NodeReply) (op : Op) → own_in answer ≡ Ok op → faults_in (cs ++ call (OwnAt own) place answer ∷ []) ≡ faults_in cs
+own_told_none cs own place answer op is = none_more cs (OwnAt own) place answer (no_error (own_in answer) op is)
+
+-- what a reply that told an own operation leaves as it was
+pub ruleset own_is_read = (own_is_none, own_told_none)
+
+-- what is told since is told since before, where none was told between
+pub told_after : (untold : WorkFault → Type 0) (old between new : List Call) (fault : WorkFault) → faults_in between ≡ faults_in old → IsToldSince untold between new fault → IsToldSince untold old new fault
+told_after untold old between new fault none (inl told) = inl (told ∙ ap (λ (faults : List WorkFault). faults ++ fault ∷ []) none)
+told_after untold old between new fault none (inr other) = inr (other.0 ∙ none, other.1)
+
+-- there is no place behind all
+pub place_fault : (first count : ℕ) (fault : WorkFault) → place_after first count ≡ Err fault → fault ≡ Node Own
+place_fault first count fault is = by (nat_lt (first + count) (2 ^ 32)) is
+  where
+    by : (t : Bool) → (if t then Ok (first + count) else Err (Node Own)) ≡ Err fault → fault ≡ Node Own
+    by true h = cc
+    by false h = cc
 
 with_ops_more : (m : Message) (xs ys : List Op) → with_ops m (xs ++ ys) ≡ with_ops m xs ++ ys
 with_ops_more (Batch b) xs ys = sym (append_assoc b.ops xs ys)

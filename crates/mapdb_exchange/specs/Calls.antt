@@ -8,7 +8,7 @@ use Rattle.mapdb_replica.specs.declared.faults.IssueFault.TheVariants as issue
 use Rattle.mapdb_replica.specs.declared.faults.TakeFault.{TakeFault}
 use Rattle.mapdb_replica.specs.declared.faults.TakeFault.TheVariants as take
 use Rattle.mapdb_node.specs.declared.events.NodeEvent.{NodeEvent}
-use Rattle.mapdb_node.specs.declared.events.NodeEvent.TheVariants.{Issue, Take}
+use Rattle.mapdb_node.specs.declared.events.NodeEvent.TheVariants.{Issue, OwnAt, Served, Take}
 use Rattle.mapdb_node.specs.declared.events.NodeReply.{NodeReply}
 use Rattle.mapdb_node.specs.declared.events.NodeReply.TheVariants as reply
 use Rattle.mapdb_node.specs.declared.seats.Call.{Call}
@@ -104,3 +104,38 @@ with_ops Fin rest = rest
 abbrev pub ops_in : List Message → List Op
 ops_in [] = []
 ops_in (m ∷ ms) = with_ops m (ops_in ms)
+
+-- the fault of an answer, if it is one, before others
+abbrev pub with_error : {A : Type 0} → Result A WorkFault → List WorkFault → List WorkFault
+with_error (Ok value) rest = rest
+with_error (Err fault) rest = fault ∷ rest
+
+-- the fault that the reply to an event tells a worker, if it does, before others
+abbrev pub with_fault : NodeEvent → NodeReply → List WorkFault → List WorkFault
+with_fault (Take op) answer rest = with_error (taken_in answer) rest
+with_fault (Issue command) answer rest = with_error (issued_in answer) rest
+with_fault (OwnAt place) answer rest = with_error (own_in answer) rest
+with_fault (Served space page) answer rest = rest
+
+-- the faults that replies told, in order
+abbrev pub faults_in : List Call → List WorkFault
+faults_in [] = []
+faults_in (c ∷ cs) = with_fault c.event c.reply (faults_in cs)
+
+-- The fault is the one that a reply told, and no other reply told any; or none told any since, and
+-- it is one that no reply tells.
+abbrev pub IsToldSince : (WorkFault → Type 0) → List Call → List Call → WorkFault → Type 0
+IsToldSince untold old new fault = (faults_in new ≡ faults_in old ++ fault ∷ [])
+    ⊎ ((faults_in new ≡ faults_in old) × untold fault)
+
+-- a call was not done, but for a gate
+abbrev pub IsCallFault : WorkFault → Type 0
+IsCallFault fault = (fault ≡ Memory) ⊎ (fault ≡ Node JournalFull)
+
+-- so, or a link failed
+abbrev pub IsReceivingFault : WorkFault → Type 0
+IsReceivingFault fault = (fault ≡ Link) ⊎ IsCallFault fault
+
+-- so, or there is no own operation at a place
+abbrev pub IsSendingFault : WorkFault → Type 0
+IsSendingFault fault = (fault ≡ Node Own) ⊎ IsReceivingFault fault

@@ -1,8 +1,9 @@
 //! The issuing worker of a processor: it runs the script, and puts what is issued on the links.
 
 ghost use Rattle.std.specs.Prelude.{◌≡◌, ◌⊎◌, ◌++◌, length, map, IfErr, IfOk, OnOk};
-ghost use Rattle.mapdb_exchange.specs.Calls.{IsReadingFault, IsIssuingFault, commands_in};
-ghost use Rattle.mapdb_exchange.specs.Calls.{issued_in, own_in, place_after};
+ghost use Rattle.mapdb_exchange.specs.Calls.{IsIssuingFault, IsReadingFault, IsSendingFault};
+ghost use Rattle.mapdb_exchange.specs.Calls.{IsToldSince, commands_in, faults_in, issued_in, own_in};
+ghost use Rattle.mapdb_exchange.specs.Calls.{place_after};
 ghost use Rattle.mapdb_exchange.specs.Finishing.{AreFinished, sent_on};
 
 use crate::faults::{NodeFault, WorkFault};
@@ -26,6 +27,7 @@ pub(crate) struct Issuing<'a> {
 
 /// Runs the commands in order through the gate. After each that issued something it puts one batch
 /// on each link, and at the end Fin. At Ok the seat's commands are those of the script, in order.
+/// Where a reply tells a fault, that one is told, unless the gate lets no more pass.
 pub(crate) fn issue_all<R: Wait, G: Gate>(
     rt: &R,
     alloc: Global,
@@ -38,7 +40,10 @@ pub(crate) fn issue_all<R: Wait, G: Gate>(
     ensures finished { IfOk result (λ ends. AreFinished (map sent_on links.items) ends.items) }
     ensures commands { OnOk result (commands_in seat.new.calls
         ≡ commands_in seat.old.calls ++ script.now) }
+    ensures none_told { OnOk result (faults_in seat.new.calls ≡ faults_in seat.old.calls) }
     ensures fault { IfErr result (λ fault. (fault ≡ WorkFault.Link) ⊎ IsIssuingFault fault) }
+    ensures told { IfErr result (λ fault. (fault ≡ WorkFault.Gate)
+        ⊎ IsToldSince IsSendingFault seat.old.calls seat.new.calls fault) }
 {
     let mut links = links;
     let mut first = 0u32;
@@ -70,7 +75,7 @@ fn issued_count(reply: &NodeReply) -> Result<u32, WorkFault>
 }
 
 /// Reads so many own operations of a copy, from a place on.
-#[tactic(auto, using(crate::proofs::MoreCalls::own_is_none))]
+#[tactic(auto, using(crate::proofs::MoreCalls::own_is_read))]
 fn own_ops<R: Wait>(
     rt: &R,
     alloc: Global,
@@ -80,8 +85,10 @@ fn own_ops<R: Wait>(
     count: u32,
 ) -> Result<Vec<Op>, WorkFault>
     ensures commands { OnOk result (commands_in seat.new.calls ≡ commands_in seat.old.calls) }
+    ensures none_told { OnOk result (faults_in seat.new.calls ≡ faults_in seat.old.calls) }
     ensures count { IfOk result (λ ops. length ops.items ≡ count) }
     ensures fault { IfErr result IsReadingFault }
+    ensures told { IfErr result (IsToldSince IsSendingFault seat.old.calls seat.new.calls) }
 {
     let mut ops = Vec::new(alloc);
     for step in 0..count {

@@ -1,7 +1,8 @@
 //! Ends of links that receive the batches of a processor, which are taken into the copy of another.
 
 ghost use Rattle.std.specs.Prelude.{◌≡◌, ◌⊎◌, true, [], ◌∷◌, ◌++◌, IfErr, IfOk, OnOk};
-ghost use Rattle.mapdb_exchange.specs.Calls.{IsTakingFault, held_in, ops_in, taken_in};
+ghost use Rattle.mapdb_exchange.specs.Calls.{IsCallFault, IsReceivingFault, IsTakingFault};
+ghost use Rattle.mapdb_exchange.specs.Calls.{IsToldSince, faults_in, held_in, ops_in, taken_in};
 ghost use Rattle.mapdb_exchange.specs.Links.{AreNumbered, is_expected};
 
 use crate::faults::{NodeFault, WorkFault};
@@ -34,7 +35,8 @@ impl BatchReceiver {
 
     /// Receives until Fin, and takes each operation of each batch into the node. What was received
     /// then is batches of this link, numbered from 0 on, and Fin; and what was taken from the seat
-    /// and is held is what these batches carried, in order.
+    /// and is held is what these batches carried, in order. Where a reply tells a fault, that one
+    /// is told.
     #[tactic(auto, using(crate::proofs::MoreCalls::message_taken))]
     pub(crate) fn receive_all<R: Wait>(
         self,
@@ -45,7 +47,10 @@ impl BatchReceiver {
         ensures numbered { IfOk result (λ end. AreNumbered self.from self.to 0 end.received) }
         ensures taken { IfOk result (λ end. held_in seat.new.calls
             ≡ held_in seat.old.calls ++ ops_in end.received) }
+        ensures none_told { OnOk result (faults_in seat.new.calls ≡ faults_in seat.old.calls) }
         ensures fault { IfErr result (λ fault. (fault ≡ WorkFault.Link) ⊎ IsTakingFault fault) }
+        ensures told { IfErr result
+            (IsToldSince IsReceivingFault seat.old.calls seat.new.calls) }
     {
         let BatchReceiver { from, to, mut end } = self;
         let mut next = 0u32;
@@ -90,10 +95,12 @@ fn is_expected(message: &Message, from: u8, to: u8, index: u32) -> bool
 }
 
 /// Takes operations into a node, one by one. At Ok these were taken from the seat, in order, and
-/// are held.
+/// are held. Where a reply tells a fault, that one is told.
 fn take_all<R: Wait>(rt: &R, node: &Node, seat: &mut Seat, ops: &[Op]) -> Result<(), WorkFault>
     ensures taken { OnOk result (held_in seat.new.calls ≡ held_in seat.old.calls ++ ops.now) }
+    ensures none_told { OnOk result (faults_in seat.new.calls ≡ faults_in seat.old.calls) }
     ensures fault { IfErr result IsTakingFault }
+    ensures told { IfErr result (IsToldSince IsCallFault seat.old.calls seat.new.calls) }
 {
     for op in ops {
         let reply = node.call(rt, seat, NodeEvent::Take(*op))?;

@@ -1,7 +1,7 @@
 //! The workers of a processor: one issues, and one for each other processor receives.
 
 ghost use Rattle.std.specs.Prelude.{◌≡◌, None, IfSome};
-ghost use Rattle.mapdb_exchange.specs.Workers.{HasWorked, MayTell};
+ghost use Rattle.mapdb_exchange.specs.Workers.{HasWorked, MayTell, TellsItsNode};
 
 use crate::faults::WorkFault;
 use crate::issuing::{Issuing, issue_all};
@@ -39,10 +39,11 @@ pub(crate) struct Ended {
 }
 
 /// Works, and gives the seat back. The ends of the links are dropped, so that no other worker waits
-/// for this one.
+/// for this one. A fault that the node told is the one that is told.
 pub(crate) fn work<R: Wait, G: Gate>(rt: &R, alloc: Global, gate: &G, post: Post) -> Ended
     ensures worked { result.fault ≡ None → HasWorked post.entry.job result.seat }
     ensures fault { IfSome result.fault (MayTell post.entry.job) }
+    ensures told { TellsItsNode post.entry.job result.seat result.fault }
 {
     let Post { node, job } = post;
     match job {
