@@ -1,5 +1,5 @@
 #!/usr/bin/env python3
-"""Times the built program on six kinds of work.
+"""Times the built program on seven kinds of work.
 
     bench/run.py [--program PATH] [--beside "CMD"] [--scales F,..] [--runs N] [--limit S] [NAME ..]
 
@@ -24,7 +24,7 @@ BUILT = os.path.join(TOP, "crates", "l4map", "out", "l4map")
 
 
 def options() -> argparse.Namespace:
-    parser = argparse.ArgumentParser(description="Times the built program on six kinds of work.")
+    parser = argparse.ArgumentParser(description="Times the built program on seven kinds of work.")
     parser.add_argument("names", nargs="*", metavar="NAME",
                         help="of %s (default: all)" % ", ".join(WORKS))
     parser.add_argument("--program", default=BUILT, help="its path (default: %(default)s)")

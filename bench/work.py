@@ -13,13 +13,14 @@ from random import Random
 
 from works.chain import chain
 from works.fan import fan
+from works.leases import leases
 from works.maps import maps
 from works.merge import merge
 from works.overlaps import overlaps
 from works.storm import storm
 
 OPERATIONS = 65536
-WORKS = {work.__name__: work for work in (chain, fan, maps, storm, merge, overlaps)}
+WORKS = {work.__name__: work for work in (chain, fan, maps, storm, leases, merge, overlaps)}
 
 
 def scale_of(text: str) -> float:

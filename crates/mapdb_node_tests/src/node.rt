@@ -92,12 +92,19 @@ enum Closed {
     Mismatch,
 }
 
+/// What a fault says of how a node closed.
+fn closed_by(fault: &CloseFault) -> Closed {
+    match fault {
+        CloseFault::StrangeSeat(_) => Closed::StrangeSeat,
+        CloseFault::Mismatch(_) => Closed::Mismatch,
+    }
+}
+
 /// Closes a node.
 fn close(node: Node, seats: Vec<Seat>) -> Closed {
     match node.close(seats) {
         Ok(history) => Closed::Entries(history.entries().len()),
-        Err(CloseFault::StrangeSeat(_)) => Closed::StrangeSeat,
-        Err(CloseFault::Mismatch(_)) => Closed::Mismatch,
+        Err(fault) => closed_by(&fault),
     }
 }
 
@@ -146,12 +153,18 @@ fn close_leaves_entries_out(rt: HostRuntime) -> Result<(), Fail> {
     expect_one(&rt, rt.alloc(), node, one, Closed::Mismatch)
 }
 
+/// How many operations the copy holds that a fault hands back.
+fn held_back(fault: &CloseFault) -> u32 {
+    match fault {
+        CloseFault::StrangeSeat(copy) | CloseFault::Mismatch(copy) => copy.log_len(),
+    }
+}
+
 /// How many operations the copy holds that a node hands back with a fault.
 fn handed_back(node: Node, seats: Vec<Seat>) -> Option<u32> {
     match node.close(seats) {
         Ok(_) => None,
-        Err(CloseFault::StrangeSeat(copy)) => Some(copy.log_len()),
-        Err(CloseFault::Mismatch(copy)) => Some(copy.log_len()),
+        Err(fault) => Some(held_back(&fault)),
     }
 }
 

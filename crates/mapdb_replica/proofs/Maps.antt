@@ -2,3 +2,4 @@ pub mod Gathering
 pub mod HolderLists
 pub mod HolderNames
 pub mod MapRecords
+pub mod Powerless

@@ -20,7 +20,7 @@ fn rebuild(index: &mut RightsIndex, alloc: Global, facts: &Facts)
 }
 
 /// Lets the index follow an operation that the facts have by now. Where there is no memory for that
-/// it is absent, and no call fails for it: the next operation has it built anew.
+/// it is absent, and no call fails for it: the next operation that finds memory has it built anew.
 pub(crate) fn follow(index: &mut RightsIndex, alloc: Global, facts: &Facts, op: &Op)
     requires formed { is_formed op.now ≡ true }
     requires before { KeptUpBefore index.old op.now (state_of_facts facts.now) }

@@ -14,6 +14,7 @@ use Rattle.mapdb_lists.specs.declared.places.Places.{Places}
 use Rattle.mapdb_rights.specs.Caching.{AreRights}
 use Rattle.mapdb_rights.specs.CachedFrames.{AreFrames}
 use Rattle.mapdb_rights.specs.HeldPlaces.{AreOfHeld, HasPlaces}
+use Rattle.mapdb_rights.specs.LivePlaces.{AreLive}
 
 -- each record that is held is listed, as far as it is not revoked, and no other, and what is listed
 -- is aligned; each record that is held stands under its own name and is well-formed; under each
@@ -26,16 +27,28 @@ pub record AreListed (S : State) (listed : Places) : Type 0 where
   pub held : AreOfHeld S listed
   pub by_name : (id : RecordId) → held_record listed id ≡ S.record_at id
 
--- What is kept stands for the state: the cached rights are those of each record at each page, where
--- there are some the frame is the record's, and the records that are held are listed.
-pub record Stands (changes : AllChanges) (listed : Places) (S : State) : Type 0 where
+-- so it was for a state that the operation made this one
+pub record WereListed (listed : Places) (op : Op) (S : State) : Type 0 where
+  pub before : State
+  pub is : S ≡ join before (said op)
+  pub listed_there : AreListed before listed
+
+-- What questions go over stands for the state: the cached rights are those of each record at each
+-- page, where there are some the frame is the record's, and the records that have some are listed.
+pub record Shows (changes : AllChanges) (live : Places) (S : State) : Type 0 where
   pub rights : AreRights S (cached_in changes.own.entries)
   pub frames : AreFrames S changes.own.entries
+  pub live_there : AreLive S live
+
+-- What is kept stands for the state: what questions go over, and the records that are held are
+-- listed.
+pub record Stands (changes : AllChanges) (listed live : Places) (S : State) : Type 0 where
+  pub shows : Shows changes live S
   pub listed_there : AreListed S listed
 
 -- what is kept stood for a state that the operation made this one
-pub record Stood (changes : AllChanges) (listed : Places) (op : Op) (S : State)
+pub record Stood (changes : AllChanges) (listed live : Places) (op : Op) (S : State)
     : Type 0 where
   pub before : State
   pub is : S ≡ join before (said op)
-  pub stood : Stands changes listed before
+  pub stood : Stands changes listed live before

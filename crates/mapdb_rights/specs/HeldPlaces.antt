@@ -1,6 +1,6 @@
 -- Which records have their places listed: those that are held, but for what is revoked, and no
 -- others.
-use Rattle.std.specs.Prelude.{◌≡◌, ◌⊎◌, Some, true}
+use Rattle.std.specs.Prelude.{◌≡◌, ◌⊎◌, Some, false, true}
 use Rattle.mapdb_fpage.specs.Place.{IsPlace}
 use Rattle.mapdb_facts.specs.Looking.{Holds}
 use Rattle.mapdb_facts.specs.State.{State}
@@ -8,6 +8,7 @@ use Rattle.mapdb_facts.specs.declared.names.RecordId.{RecordId}
 use Rattle.mapdb_facts.specs.declared.operations.Record.{Record}
 use Rattle.mapdb_lists.specs.Listing.{held_record, is_listed}
 use Rattle.mapdb_lists.specs.declared.places.Listed.{Listed}
+use Rattle.mapdb_lists.specs.declared.places.Owner.{Owner}
 use Rattle.mapdb_lists.specs.declared.places.Owner.TheVariants as owners
 use Rattle.mapdb_lists.specs.declared.places.Places.{Places}
 use Rattle.mapdb_rights.specs.Revoked.{IsRevoked, IsRevokedBelow}
@@ -42,9 +43,19 @@ pub record IsListed (S : State) (set : Places) (r : Record) : Type 0 where
   pub by_parent : IsRevoked S r ⊎ (is_listed set (source_of r) ≡ true)
   pub place : IsPlace r.place
 
--- each record that is held is listed, whether its parent is held or not
+-- each record that is held is listed, as far as it is not revoked, whether its parent is held or not
 abbrev pub HasPlaces : State → Places → Type 0
 HasPlaces S set = (r : Record) → Holds S r → IsListed S set r
+
+-- of a record its place, where the owner is a space, and else its source
+abbrev pub entry_for : Owner → Record → Listed
+entry_for (owners.Space space) r = place_of r
+entry_for (owners.Record parent) r = source_of r
+
+-- a held record that is not listed for the owner
+pub record IsLeftOut (S : State) (set : Places) (owner : Owner) (r : Record) : Type 0 where
+  pub held : Holds S r
+  pub out : is_listed set (entry_for owner r) ≡ false
 
 -- a held record whose place or whose source the entry is
 pub record IsOfHeld (S : State) (e : Listed) : Type 0 where

@@ -8,7 +8,7 @@ use Rattle.mapdb_rights.specs.Following.{Stands}
 -- the index is there, and stands for the state
 pub record StandsFor (index : RightsIndex) (S : State) : Type 0 where
   pub there : index.absent ≡ false
-  pub stands : Stands index.changes index.listed S
+  pub stands : Stands index.changes index.listed index.live S
 
 -- the index stood for a state that the operation made this one
 pub record StoodBefore (index : RightsIndex) (op : Op) (S : State) : Type 0 where

@@ -8,6 +8,7 @@ mod following;
 mod frame_rights;
 mod listing;
 mod live_names;
+mod live_places;
 mod meeting;
 mod page_pairs;
 mod page_rights;

@@ -1,18 +1,15 @@
--- Records from which everything is taken: they have no right, and no revocation from them is new.
-use Rattle.std.proofs.Common.{◌≡◌, ℕ, ◌+◌, ◌-◌, Bool, true, false, Some, refl, sym, ap, subst, ◌∙◌, List, [], ◌++◌, inl, inr}
-use Rattle.std.specs.Prelude.{◌&&◌, IfSome, Option, None, map, nat_lt, not, if◌then◌else◌}
+-- Records from which everything is taken: no revocation from them is new.
+use Rattle.std.proofs.Common.{◌≡◌, ℕ, ◌+◌, ◌-◌, Bool, true, false, Some, refl, sym, subst, ◌∙◌, List, [], ◌++◌, inl, inr}
+use Rattle.std.specs.Prelude.{IfSome, Option, None, map, if◌then◌else◌}
 use Rattle.std.specs.List.{filter_map, flat_map}
-use Rattle.std.proofs.lemmas.Bool.{and_parts, cases_Bool, cond-false, false≢true}
+use Rattle.std.proofs.lemmas.Bool.{and_parts, cases_Bool}
 use Rattle.mapdb_fpage.specs.Place.{IsPlace, Place, holds, meet, moved}
-use Rattle.mapdb_fpage.specs.RightSets.{common, includes, is_empty}
 use Rattle.mapdb_fpage.specs.declared.right_sets.Right.{Right}
 use Rattle.mapdb_fpage.specs.declared.right_sets.Rights.{Rights}
-use Rattle.mapdb_fpage.proofs.Parts.{some_page_is_exact}
-use Rattle.mapdb_fpage.proofs.RightLemmas.{common_left, empty_from}
 use Rattle.mapdb_facts.specs.Adding.{is_new}
 use Rattle.mapdb_facts.specs.Facts.{records_of_facts, state_of_facts}
 use Rattle.mapdb_facts.specs.Looking.{Holds}
-use Rattle.mapdb_facts.specs.Names.{is_root, same_id, same_space}
+use Rattle.mapdb_facts.specs.Names.{same_id}
 use Rattle.mapdb_facts.specs.Records.{IsAmong}
 use Rattle.mapdb_facts.specs.State.{Atom, End, Gives, Has, Rec, Rev, State}
 use Rattle.mapdb_facts.specs.declared.holding.Facts.{Facts}
@@ -28,66 +25,19 @@ use Rattle.mapdb_rights.specs.AllBut.{IsAllBut}
 use Rattle.mapdb_rights.specs.Index.{KeepsUp}
 use Rattle.mapdb_rights.specs.Meeting.{children_of, holders_of, holds_part, source_place, takes_part}
 use Rattle.mapdb_rights.specs.Revoked.{IsRevoked, IsRevokedBelow}
-use Rattle.mapdb_rights.specs.Right.{allows, has_right, reaches, rights_at, source_page}
 use Rattle.mapdb_rights.specs.declared.index.rights_index.RightsIndex.{RightsIndex}
-use Rattle.mapdb_rights.proofs.Live.ServedPages.{right_in}
-use Rattle.mapdb_rights.proofs.Rights.Steps.{has_right-record}
-use Rattle.mapdb_replica.specs.Issue.{first_holders, has_any, holder_of, holders, piece_of, piece_with, record_piece}
+use Rattle.mapdb_replica.specs.Issue.{first_holders, holder_of, holders}
 use Rattle.mapdb_replica.specs.LeftOut.{IsOld}
 use Rattle.mapdb_replica.specs.Revoking.{cut_within}
 use Rattle.mapdb_replica.specs.Unmap.{child_cut, child_cut_with, cuts_within, holder_cuts, own_cut}
 use Rattle.mapdb_replica.specs.declared.pieces.Holder.{Holder}
-use Rattle.mapdb_replica.proofs.Calls.AllBut.{all_but-append, all_but-filter_map, all_but-flat_map, all_but-twice, all_given, all_stay, among_filter, given_go}
+use Rattle.mapdb_replica.proofs.Calls.AllBut.{all_but-append, all_but-filter_map, all_but-flat_map, all_but-twice, all_stay, among_filter, given_go}
 use Rattle.mapdb_replica.proofs.Copies.KeptIndexes.{forms_there, named_there}
 use Rattle.mapdb_replica.proofs.Copies.OpForms.{HasForm}
-use Rattle.mapdb_replica.proofs.Maps.Gathering.{pieces_of}
 use Rattle.mapdb_replica.proofs.Maps.HolderNames.{listed_held}
-use Rattle.mapdb_replica.proofs.Unmaps.MeetingRecords.{cuts_held, cuts_taken, listed_map, pieces_held}
+use Rattle.mapdb_replica.proofs.Unmaps.MeetingRecords.{cuts_held, cuts_taken, listed_map}
 use Rattle.mapdb_replica.proofs.Unmaps.SharedPlaces.{moved_holds, shared, within_holds}
 use Rattle.mapdb_replica.proofs.Unmaps.TakenPages.{taken_of}
-
--- no right is left at any page
-module _ (S : State) (r : Record) (other : is_root r.id ≡ false) (held : Holds S r) (gone : IsRevoked S r) where
-  has_none : (page : ℕ) (right : Right) → has_right S r.id page right ≡ false
-  has_none page right =
-      elim (cases_Bool (has_right S r.id page right)) [
-        | inl has ↦
-            let parts = and_parts (reaches r.id r page && allows S r.id r page right) (has_right S r.parent (source_page r page) right)
-            (sym (has_right-record S r.id r page right other held) ∙ has) in
-            let both = and_parts (reaches r.id r page) (allows S r.id r page right) parts.0 in
-            let inside = and_parts (holds r.place page) (nat_lt r.parent.number r.id.number) both.0 in
-            let named = and_parts (includes r.rights right && not (S.is_cut r.id page right)) (not (S.is_ended r.space)) both.1 in
-            let uncut = and_parts (includes r.rights right) (not (S.is_cut r.id page right)) named.0 in
-            absurd (false≢true (sym (ap not (gone page inside.0 right)) ∙ uncut.1))
-        | inr none ↦ none
-      ]
-
-  none_common : (page : ℕ) (rights : Rights) (right : Right) → includes (common (rights_at S r.id page) rights) right ≡ false
-  none_common page rights right =
-      elim (cases_Bool (includes (common (rights_at S r.id page) rights) right)) [
-        | inl has ↦
-            absurd (false≢true (sym (has_none page right) ∙ (sym (right_in S r.id page right) ∙ common_left (rights_at S r.id page) rights right has)))
-        | inr none ↦ none
-      ]
-
-  none_any : (rights : Rights) (part : Place) → has_any S r.id rights part ≡ false
-  none_any rights part =
-      elim (cases_Bool (has_any S r.id rights part)) [
-        | inl any ↦
-            let found = (some_page_is_exact part (λ page. not (is_empty (common (rights_at S r.id page) rights)))).0 any in
-            absurd (false≢true (sym (ap not (empty_from (common (rights_at S r.id found.0) rights) (none_common found.0 rights))) ∙ found.2))
-        | inr none ↦ none
-      ]
-
-  -- so it has no piece of any source
-  pub no_piece_left : (sender : Space) (source : Place) (rights : Rights) → record_piece S sender source rights r ≡ None
-  unfolding record_piece piece_of
-  no_piece_left sender source rights = by (same_space r.space sender) (meet r.place source)
-    where
-      by : (b : Bool) (o : Option Place) → (if b then piece_with S rights r.id o else None) ≡ None
-      by false o = refl
-      by true None = refl
-      by true (Some part) = cond-false (has_any S r.id rights part) (Some (record { parent = r.id; source = part })) None (none_any rights part)
 
 -- what takes nothing that is not yet taken
 old_atom : (S : State) (cut : Revocation) → ((page : ℕ) → holds cut.part page ≡ true → (right : Right) → S.is_cut cut.target page right ≡ true)
@@ -149,16 +99,6 @@ module _ (S : State) (form : HasForm S) (records : List Record) (held : (c : Rec
 module _ (facts : Facts) (index : RightsIndex) (there : index.absent ≡ false) (kept : KeepsUp index (state_of_facts facts)) where
   abbrev held_listed : (r : Record) → IsAmong r (records_of_facts facts) → Holds (state_of_facts facts) r
   held_listed r k = listed_held facts (named_there index (state_of_facts facts) there kept) r k
-
-  -- the pieces of the records that are left are those of all
-  pub pieces_left : (sender : Space) (source : Place) (rights : Rights) (left : List Record)
-      → IsAllBut (IsRevokedBelow (state_of_facts facts)) (holders_of (records_of_facts facts) sender source) left
-      → pieces_of (state_of_facts facts) sender source rights left ≡ pieces_of (state_of_facts facts) sender source rights (records_of_facts facts)
-  pieces_left sender source rights left all_but =
-      all_given (IsRevokedBelow (state_of_facts facts)) (record_piece (state_of_facts facts) sender source rights) (holders_of (records_of_facts facts) sender source) left
-      (λ r k gone. let held = held_listed r (among_filter (holds_part sender source) (records_of_facts facts) r k) in
-      no_piece_left (state_of_facts facts) r ((forms_there index (state_of_facts facts) there kept).no_root r.id r held) held gone.own sender source rights) all_but
-      ∙ pieces_held (state_of_facts facts) sender source rights (records_of_facts facts)
 
   -- what the children that are left lose is what all lose, but for what is known
   pub children_left : (id : RecordId) (part : Place) (rights : Rights) → IsPlace part → (left : List Record)

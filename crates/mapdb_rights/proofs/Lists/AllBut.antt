@@ -5,11 +5,6 @@ use Rattle.std.proofs.lemmas.Bool.{true≢false}
 use Rattle.mapdb_facts.specs.Records.{IsAmong}
 use Rattle.mapdb_rights.specs.AllBut.{IsAllBut}
 
--- none need be
-pub all_stay : {A : Type 0} (may_go : A → Type 0) (all left : List A) → left ≡ all → IsAllBut may_go all left
-all_stay may_go [] left is = is
-all_stay may_go (x ∷ all) left is = inr (all, is, all_stay may_go all all refl)
-
 -- what passes a second test too is what passes the first, without those that fail the second
 module _ {A : Type 0} (may_go : A → Type 0) (test keep : A → Bool) where
   pub all_but_failing : (all : List A) → ((x : A) → IsAmong x all → test x ≡ true → may_go x ⊎ (keep x ≡ true))
@@ -25,3 +20,9 @@ module _ {A : Type 0} (may_go : A → Type 0) (test keep : A → Bool) where
         | inl may ↦ inl (may, rest)
         | inr kept ↦ absurd (true≢false (sym kept ∙ gone))
       ]
+
+-- what may go for one reason may go for another
+pub all_but_weaker : {A : Type 0} (may_go may : A → Type 0) → ((x : A) → may_go x → may x) → (all left : List A) → IsAllBut may_go all left → IsAllBut may all left
+all_but_weaker may_go may weaker [] left is = is
+all_but_weaker may_go may weaker (x ∷ all) left (inl gone) = inl (weaker x gone.0, all_but_weaker may_go may weaker all left gone.1)
+all_but_weaker may_go may weaker (x ∷ all) left (inr kept) = inr (kept.0, kept.1, all_but_weaker may_go may weaker all kept.0 kept.2)

@@ -16,7 +16,7 @@ use Rattle.mapdb_lists.specs.declared.places.Owner.TheVariants as owners
 use Rattle.mapdb_lists.specs.declared.places.Places.{Places}
 use Rattle.mapdb_rights.specs.Among.{is_shown}
 use Rattle.mapdb_rights.specs.First.{IsBehindFirst, IsFirstFound, IsFirstOfAll, first_where}
-use Rattle.mapdb_rights.specs.Following.{AreListed}
+use Rattle.mapdb_rights.specs.LivePlaces.{AreLive}
 use Rattle.mapdb_rights.specs.Live.{IsLive}
 use Rattle.mapdb_rights.specs.declared.index.first_records.First.{First}
 use Rattle.mapdb_rights.proofs.Live.FirstRecords.{found_where, here_where, kept_where}
@@ -31,13 +31,13 @@ module _ (S : State) (changes : PageChanges) (space : Space) (page : ℕ) where
       pub top : IsLive S space page root → IsBehindFirst changes page found root
       pub behind : HoldsPassed S space page (IsBehindFirst changes page found) own end sweep
 
-  module _ (set : Places) (listed : AreListed S set) where
+  module _ (set : Places) (lives : AreLive S set) where
     -- where the space has no places
     pub first_alone : (found : First) → owner_places set (owners.Space space) ≡ [] → IsFirstFound S changes space page found
         → (IsLive S space page root → IsBehindFirst changes page found root) → IsFirstOfAll S changes space page found
     first_alone found none there top = record {
       found = there;
-      all = passed_all S space page set listed [] none (IsBehindFirst changes page found) (page + 1) (λ inside. omega arith) top (λ p has meeting shown. absurd (false≢true has));
+      all = passed_all S space page set lives [] none (IsBehindFirst changes page found) (page + 1) (λ inside. omega arith) top (λ p has meeting shown. absurd (false≢true has));
     }
 
     module _ (own : OwnPlaces) (end : ℕ) where
@@ -47,7 +47,7 @@ module _ (S : State) (changes : PageChanges) (space : Space) (page : ℕ) where
       first_on sweep next found swept h =
           let name = next.place.id in
           record {
-            found_there = found_where S changes space page name found (shown_live S set space page listed.named listed.formed listed name) h.found_there;
+            found_there = found_where S changes space page name found (shown_live S set space page lives.named lives.formed lives name) h.found_there;
             top = λ live. kept_where S changes space page (is_shown S space page name) name root (seen_in changes name page) found (h.top live);
             behind = passed_on S space page (IsBehindFirst changes page found) (IsBehindFirst changes page (first_where (is_shown S space page name) name (seen_in changes name page) found))
                 own end sweep next swept (λ id. kept_where S changes space page (is_shown S space page name) name id (seen_in changes name page) found)
@@ -59,6 +59,6 @@ module _ (S : State) (changes : PageChanges) (space : Space) (page : ℕ) where
           → IsSweptOn (own_list own) (ahead own) page end sweep None → FirstPassed own end sweep found → IsFirstOfAll S changes space page found
       first_all sweep found places more none h = record {
         found = h.found_there;
-        all = passed_all S space page set listed (own_list own) places (IsBehindFirst changes page found) end more h.top
+        all = passed_all S space page set lives (own_list own) places (IsBehindFirst changes page found) end more h.top
             (none_ahead S space page (IsBehindFirst changes page found) own end sweep none h.behind);
       }

@@ -24,7 +24,7 @@ use Rattle.mapdb_lists.specs.declared.places.Owner.TheVariants as owners
 use Rattle.mapdb_lists.specs.declared.places.Places.{Places}
 use Rattle.mapdb_rights.specs.Caching.{AreRights}
 use Rattle.mapdb_rights.specs.First.{AreAsFar, IsAllAsFar, IsJoined, joined_as_far}
-use Rattle.mapdb_rights.specs.Following.{AreListed}
+use Rattle.mapdb_rights.specs.LivePlaces.{AreLive}
 use Rattle.mapdb_rights.specs.Live.{IsLive}
 use Rattle.mapdb_rights.specs.PageRights.{is_record_into}
 use Rattle.mapdb_rights.specs.Right.{rights_at}
@@ -84,20 +84,20 @@ module _ (S : State) (changes : PageChanges) (space : Space) (page shift : ℕ) 
       pub top : IsLive S space page root → IsJoined changes page shift known root
       pub behind : HoldsPassed S space page (IsJoined changes page shift known) own end sweep
 
-  module _ (rights : AreRights S (cached_in changes)) (set : Places) (listed : AreListed S set) where
+  module _ (rights : AreRights S (cached_in changes)) (set : Places) (lives : AreLive S set) where
     -- where the space has no places
     pub rights_alone : (known : Rights) → owner_places set (owners.Space space) ≡ [] → AreAsFar S changes space page shift known
         → (IsLive S space page root → IsJoined changes page shift known root) → IsAllAsFar S changes space page shift known
     rights_alone known none there top = record {
       found = there;
-      all = passed_all S space page set listed [] none (IsJoined changes page shift known) (page + 1) (λ inside. omega arith) top (λ p has meeting shown. absurd (false≢true has));
+      all = passed_all S space page set lives [] none (IsJoined changes page shift known) (page + 1) (λ inside. omega arith) top (λ p has meeting shown. absurd (false≢true has));
     }
 
     module _ (own : OwnPlaces) (end : ℕ) (places : owner_places set (owners.Space space) ≡ own_list own) where
       record_live : (p : OwnPlace) → stands (own_list own) p ≡ true → (right : Right) → includes (seen p.id).rights right ≡ true → IsLive S space page p.id
       record_live p held right has =
-          shown_live S set space page listed.named listed.formed listed p.id
-          (and_from (is_record_into (S.record_at p.id) space) (not (is_empty (rights_at S p.id page))) (place_into S set listed space (own_list own) places p held) (ap not (some_rights rights p.id right has)))
+          shown_live S set space page lives.named lives.formed lives p.id
+          (and_from (is_record_into (S.record_at p.id) space) (not (is_empty (rights_at S p.id page))) (place_into S set lives space (own_list own) places p held) (ap not (some_rights rights p.id right has)))
 
       -- one place more
       pub rights_on : (sweep : Sweep) (next : NextPlace) (known : Rights) → IsSweptTo (own_list own) (ahead own) page end sweep next → RightsPassed own end sweep known
@@ -116,6 +116,6 @@ module _ (S : State) (changes : PageChanges) (space : Space) (page shift : ℕ) 
           → RightsPassed own end sweep known → IsAllAsFar S changes space page shift known
       rights_all sweep known more none h = record {
         found = h.found_there;
-        all = passed_all S space page set listed (own_list own) places (IsJoined changes page shift known) end more h.top
+        all = passed_all S space page set lives (own_list own) places (IsJoined changes page shift known) end more h.top
             (none_ahead S space page (IsJoined changes page shift known) own end sweep none h.behind);
       }

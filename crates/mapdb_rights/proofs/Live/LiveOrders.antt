@@ -23,12 +23,11 @@ use Rattle.mapdb_lists.proofs.Lists.ListedOrder.{le_parts, less_from, lt_parts}
 use Rattle.mapdb_lists.proofs.PlaceLemmas.Meetings.{aligned_start, either_way, meets_below, same_pages, some_pages}
 use Rattle.mapdb_lists.specs.declared.places.Places.{Places}
 use Rattle.mapdb_rights.specs.Among.{IsLeastOf, IsLiveRoot, IsShown, IsShownAt, lesser, under}
-use Rattle.mapdb_rights.specs.Following.{AreListed}
+use Rattle.mapdb_rights.specs.LivePlaces.{AreLive}
 use Rattle.mapdb_rights.specs.HeldPlaces.{place_of}
 use Rattle.mapdb_rights.specs.Live.{IsLive, IsLiveFrom}
 use Rattle.mapdb_rights.specs.PageRights.{is_record_into}
 use Rattle.mapdb_rights.specs.Right.{rights_at}
-use Rattle.mapdb_rights.proofs.Rights.Revoked.{revoked_rights}
 use Rattle.mapdb_rights.proofs.Settling.Ended.{rights_in_place}
 use Rattle.mapdb_rights.proofs.Lists.LeastNames.{least_of_both}
 use Rattle.mapdb_rights.proofs.Live.LiveRecords.{into_held, no_root}
@@ -112,7 +111,7 @@ module _ (S : State) (set : Places) (space : Space) (page : ℕ) where
         | inr passed ↦ absurd (true≢false passed.2)
       ]
 
-  module _ (named : IsNamed S) (formed : (r : Record) → Holds S r → IsFormedRecord r) (listed : AreListed S set) where
+  module _ (named : IsNamed S) (formed : (r : Record) → Holds S r → IsFormedRecord r) (lives : AreLive S set) where
     held_own : (id : RecordId) (r : Record) → S.record_at id ≡ Some r → Holds S r
     held_own id r at = subst (λ (i : RecordId). S.record_at i ≡ Some r) (sym (named id r at)) at
 
@@ -148,21 +147,16 @@ module _ (S : State) (set : Places) (space : Space) (page : ℕ) where
     pub standing : (id : RecordId) (end : ℕ) → is_root id ≡ false → (page < page_limit → page < end) → IsLive S space page id → Standing id end
     standing id end other more live =
         let held = into_held S space id other live.into in
-        let there = listed.places held.0 (held_own id held.0 held.1) in
         let inside : holds held.0.place page ≡ true = rights_in_place S id held.0 page other held.1 live.has_some in
         let range = holds_range held.0.place page inside in
         let high = range.1 in
-        let limit = there.place.in_space in
+        let limit = (lives.placed held.0 (held_own id held.0 held.1)).in_space in
         record {
           r = held.0;
           at = held.1;
           into = ap (λ (o : Option Record). is_record_into o space) held.1 ∙ held.2;
-          has = elim there.by_space [
-            | inl below ↦ absurd (false≢true (sym live.has_some ∙ ap is_empty (
-                ap (λ (o : RecordId). rights_at S o page) (sym (named id held.0 held.1))
-                ∙ revoked_rights S held.0 below.own (no_root held.0 (formed held.0 (held_own id held.0 held.1))) (held_own id held.0 held.1) page)))
-            | inr listed_there ↦ listed_there
-          ];
+          has = lives.listed.places held.0 (held_own id held.0 held.1)
+              (page, subst (λ (o : RecordId). is_empty (rights_at S o page) ≡ false) (sym (named id held.0 held.1)) live.has_some);
           owned = ap owners.Space (same_space_true held.0.space space held.2);
           meeting = place_meets_page held.0 page end inside (more (omega arith));
         }
@@ -182,7 +176,7 @@ module _ (S : State) (set : Places) (space : Space) (page : ℕ) where
               elim (le_parts e k (next.owned ∙ sym own) (next.least k has own above meeting)) [
                 | inl less ↦ absurd (true≢false (sym (ap is_lt (lt_parts (order_end e) k (next.owned ∙ sym own) (inl less))) ∙ not_above))
                 | inr both ↦
-                    let first : e.first ≡ k.first = same_first e k page end (listed.aligned e next.held) (listed.aligned k has) both.0 one next.meeting meeting in
+                    let first : e.first ≡ k.first = same_first e k page end (lives.listed.aligned e next.held) (lives.listed.aligned k has) both.0 one next.meeting meeting in
                     let owner : k.owner ≡ e.owner = own ∙ sym next.owned in
                     let order = sym both.0 in
                     let is : k ≡ under e id = λ i. record { owner = owner i; order = order i; first = sym first i; id = name i } in

@@ -21,7 +21,7 @@ use Rattle.mapdb_lists.specs.declared.own_places.Sweep.{Sweep}
 use Rattle.mapdb_lists.specs.declared.places.Owner.TheVariants as owners
 use Rattle.mapdb_lists.specs.declared.places.Places.{Places}
 use Rattle.mapdb_rights.specs.Among.{is_shown}
-use Rattle.mapdb_rights.specs.Following.{AreListed}
+use Rattle.mapdb_rights.specs.LivePlaces.{AreLive}
 use Rattle.mapdb_rights.specs.Frame.{frame_at}
 use Rattle.mapdb_rights.specs.Live.{IsLive}
 use Rattle.mapdb_rights.specs.PagePairs.{ArePagePairs, AreShown, HasPairAmong, IsShownPair, with_shown}
@@ -99,23 +99,23 @@ module _ (S : State) (space : Space) (page : ℕ) where
       pub top : IsLive S space page root → HasPairAmong S page pairs root
       pub behind : HoldsPassed S space page (HasPairAmong S page pairs) own end sweep
 
-  module _ (set : Places) (listed : AreListed S set) where
+  module _ (set : Places) (lives : AreLive S set) where
     -- where the space has no places
     pub pairs_alone : (pairs : List Pair) → owner_places set (owners.Space space) ≡ [] → AreShown S space page pairs
         → (IsLive S space page root → HasPairAmong S page pairs root) → ArePagePairs S space page pairs
     pairs_alone pairs none shown top = record {
       shown = shown;
-      all = passed_all S space page set listed [] none (HasPairAmong S page pairs) (page + 1) (λ inside. omega arith) top (λ p has meeting shown. absurd (false≢true has));
+      all = passed_all S space page set lives [] none (HasPairAmong S page pairs) (page + 1) (λ inside. omega arith) top (λ p has meeting shown. absurd (false≢true has));
     }
 
     shown_some : (id : RecordId) → is_shown S space page id ≡ true → is_empty (rights_at S id page) ≡ false
-    shown_some id shown = (shown_live S set space page listed.named listed.formed listed id shown).has_some
+    shown_some id shown = (shown_live S set space page lives.named lives.formed lives id shown).has_some
 
     module _ (own : OwnPlaces) (end : ℕ) (places : owner_places set (owners.Space space) ≡ own_list own) where
       record_live : (p : OwnPlace) → stands (own_list own) p ≡ true → is_empty (rights_at S p.id page) ≡ false → IsLive S space page p.id
       record_live p held some =
-          shown_live S set space page listed.named listed.formed listed p.id
-          (and_from (is_record_into (S.record_at p.id) space) (not (is_empty (rights_at S p.id page))) (place_into S set listed space (own_list own) places p held) (ap not some))
+          shown_live S set space page lives.named lives.formed lives p.id
+          (and_from (is_record_into (S.record_at p.id) space) (not (is_empty (rights_at S p.id page))) (place_into S set lives space (own_list own) places p held) (ap not some))
 
       -- one place more
       pub pairs_on : (sweep : Sweep) (next : NextPlace) (pairs : List Pair) → IsSweptTo (own_list own) (ahead own) page end sweep next → PairsPassed own end sweep pairs
@@ -134,6 +134,6 @@ module _ (S : State) (space : Space) (page : ℕ) where
           → PairsPassed own end sweep pairs → ArePagePairs S space page pairs
       pairs_all sweep pairs more none h = record {
         shown = h.shown;
-        all = passed_all S space page set listed (own_list own) places (HasPairAmong S page pairs) end more h.top
+        all = passed_all S space page set lives (own_list own) places (HasPairAmong S page pairs) end more h.top
             (none_ahead S space page (HasPairAmong S page pairs) own end sweep none h.behind);
       }

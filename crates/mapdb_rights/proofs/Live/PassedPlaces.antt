@@ -20,19 +20,20 @@ use Rattle.mapdb_lists.specs.declared.places.Places.{Places}
 use Rattle.mapdb_lists.proofs.PlaceLemmas.OwnSweeps.{start_ahead}
 use Rattle.mapdb_lists.proofs.PlaceLemmas.OwnersPlaces.{back, there}
 use Rattle.mapdb_rights.specs.Among.{is_shown}
-use Rattle.mapdb_rights.specs.Following.{AreListed}
+use Rattle.mapdb_rights.specs.LivePlaces.{AreLive}
 use Rattle.mapdb_rights.specs.HeldPlaces.{place_of}
 use Rattle.mapdb_rights.specs.Live.{IsLive}
 use Rattle.mapdb_rights.specs.PageRights.{is_record_into}
 use Rattle.mapdb_rights.specs.Right.{rights_at}
 use Rattle.mapdb_rights.proofs.Live.LiveOrders.{Standing, standing}
 use Rattle.mapdb_rights.proofs.Settling.Followed.{listed_into}
+use Rattle.mapdb_rights.proofs.Settling.LiveRecords.{of_live}
 
 -- the record of a place of the space is one into it
-pub place_into : (S : State) (set : Places) → AreListed S set → (space : Space) (places : List OwnPlace) → owner_places set (owners.Space space) ≡ places
+pub place_into : (S : State) (set : Places) → AreLive S set → (space : Space) (places : List OwnPlace) → owner_places set (owners.Space space) ≡ places
     → (p : OwnPlace) → stands places p ≡ true → is_record_into (S.record_at p.id) space ≡ true
-place_into S set listed space places is p held =
-    listed_into S set space (listed_for (owners.Space space) p) listed.held (back set (owners.Space space) places is p held) refl
+place_into S set lives space places is p held =
+    listed_into S set space (listed_for (owners.Space space) p) (of_live S (rights_at S) set lives.listed) (back set (owners.Space space) places is p held) refl
 
 module _ (S : State) (space : Space) (page : ℕ) where
   -- each place that meets the page comes later, or it holds of its record where this has a right
@@ -64,20 +65,20 @@ module _ (S : State) (space : Space) (page : ℕ) where
   ]
 
   -- where all were passed, it holds of all that have a right at the page
-  pub passed_all : (set : Places) (listed : AreListed S set) (places : List OwnPlace) → owner_places set (owners.Space space) ≡ places → (Of : RecordId → Type 0) (end : ℕ)
+  pub passed_all : (set : Places) (lives : AreLive S set) (places : List OwnPlace) → owner_places set (owners.Space space) ≡ places → (Of : RecordId → Type 0) (end : ℕ)
       → (page < page_limit → page < end) → (IsLive S space page root → Of root)
       → ((p : OwnPlace) → stands places p ≡ true → own_meets p page end ≡ true → is_shown S space page p.id ≡ true → Of p.id) → (id : RecordId) → IsLive S space page id → Of id
-  passed_all set listed places are Of end more top told id live =
+  passed_all set lives places are Of end more top told id live =
       elim (cases_Bool (is_root id)) [
         | inl is ↦
             let e : id ≡ root = same_id_true id root is in
             subst Of (sym e) (top (subst (λ (i : RecordId). IsLive S space page i) e live))
-        | inr other ↦ of_record (standing S set space page listed.named listed.formed listed id end other more live)
+        | inr other ↦ of_record (standing S set space page lives.named lives.formed lives id end other more live)
       ]
     where
-      of_record : Standing S set space page listed.named listed.formed listed id end → Of id
+      of_record : Standing S set space page lives.named lives.formed lives id end → Of id
       of_record at =
-          let name : at.r.id ≡ id = listed.named id at.r at.at in
+          let name : at.r.id ≡ id = lives.named id at.r at.at in
           subst Of name
           (told (own_place (place_of at.r)) (there set (owners.Space space) places are (place_of at.r) at.owned at.has) at.meeting
           (ap (λ (i : RecordId). is_shown S space page i) name ∙ and_from (is_record_into (S.record_at id) space) (not (is_empty (rights_at S id page))) at.into (ap not live.has_some)))

@@ -43,10 +43,10 @@ module _ (S : State) (index : RightsIndex) (stands : StandsFor index S) (space :
 
   -- what is cached are the rights
   cached_right : (id : RecordId) (right : Right) → includes (seen id).rights right ≡ has_right S id page right
-  cached_right id right = ap (λ (r : Rights). includes r right) (stands.stands.rights id page) ∙ right_in S id page right
+  cached_right id right = ap (λ (r : Rights). includes r right) (stands.stands.shows.rights id page) ∙ right_in S id page right
 
   has_frame : (id : RecordId) → IsLive S space page id → HasFrame S id page (seen id).shift
-  has_frame id live = stands.stands.frames id page (ap is_empty (stands.stands.rights id page) ∙ live.has_some)
+  has_frame id live = stands.stands.shows.frames id page (ap is_empty (stands.stands.shows.rights id page) ∙ live.has_some)
 
   -- where none has a right, from none
   pub served_nothing : IsFirstOfAll S index.changes.own.entries space page Nothing → IsServed S space page None

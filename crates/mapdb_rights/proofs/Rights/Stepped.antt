@@ -55,7 +55,7 @@ module _ (S : State) (changes : PageChanges) where
       (above : (q : ℕ) → page ≤ q → q < end → seen_in changes r.parent (source_page r q) ≡ up)
       (first : r.place.first_page ≤ page)
       (rights : change.rights ≡ without (common r.rights up.rights) taken)
-      (shift : up.shift + source_page r page < 2 * page_limit → change.shift ≡ (up.shift + source_page r page) - page) where
+      (shift : is_empty change.rights ≡ false → up.shift + source_page r page < 2 * page_limit → change.shift ≡ (up.shift + source_page r page) - page) where
     reach : (q : ℕ) → page ≤ q → q < end → reaches r.id r q ≡ true
     reach q from before = and_from (holds r.place q) (nat_lt r.parent.number r.id.number) (inside q from before) (parent_before r formed)
 
@@ -71,8 +71,9 @@ module _ (S : State) (changes : PageChanges) where
         let same : (seen_in changes r.parent (source_page r q)).shift ≡ up.shift = λ i. (above q from before i).shift in
         let far = has.far in
         let below = has.below in
+        let is = shift some in
         up_frame S r.id r child held q (seen_in changes r.parent (source_page r q)).shift change.shift
-        (reach q from before) (omega arith) has (omega (arith, shift, same, far, below))
+        (reach q from before) (omega arith) has (omega (arith, is, same, far, below))
 
     pub child_follows : Follows S changes r.id page end change
     child_follows = record { rights = rights_follow; frames = frames_follow }

@@ -19,7 +19,7 @@ use Rattle.mapdb_rights.specs.Pending.{AreSettledBut, IsPending}
 use Rattle.mapdb_rights.proofs.Settling.Ended.{empty_stands}
 use Rattle.mapdb_rights.proofs.Rights.FromParents.{from_beyond, from_none, from_outside, from_powerless}
 
-empty_other : (id : RecordId) (page : ℕ) → is_root id ≡ false → cached_in [] id page ≡ no_rights
+pub empty_other : (id : RecordId) (page : ℕ) → is_root id ≡ false → cached_in [] id page ≡ no_rights
 empty_other id page other = empty_stands id page ∙ rights_at-none nothing id page other refl
 
 module _ (S : State) (stack : List Stale)

@@ -4,7 +4,7 @@ use Rattle.std.specs.Prelude.{◌⊎◌, None, Some, max, min}
 use Rattle.std.proofs.lemmas.Bool.{cases_Bool, cond-true, lt-ltb, ltb-true, true≢false}
 use Rattle.mapdb_fpage.proofs.Meets.{holds_range}
 use Rattle.mapdb_fpage.specs.Place.{holds}
-use Rattle.mapdb_fpage.specs.RightSets.{no_rights}
+use Rattle.mapdb_fpage.specs.RightSets.{is_empty}
 use Rattle.mapdb_facts.proofs.Lists.SameNames.{same_id_true, same_space_true}
 use Rattle.mapdb_facts.specs.Looking.{Holds}
 use Rattle.mapdb_facts.specs.Merging.{IsNamed}
@@ -25,16 +25,15 @@ use Rattle.mapdb_lists.proofs.PlaceLemmas.OwnSweeps.{start_ahead}
 use Rattle.mapdb_lists.proofs.PlaceLemmas.OwnersPlaces.{there}
 use Rattle.mapdb_lists.specs.declared.places.Places.{Places}
 use Rattle.mapdb_rights.specs.Caching.{AreRights}
-use Rattle.mapdb_rights.specs.Following.{AreListed}
-use Rattle.mapdb_rights.specs.HeldPlaces.{IsListed, place_of}
+use Rattle.mapdb_rights.specs.LivePlaces.{AreLive, HasSome}
+use Rattle.mapdb_rights.specs.HeldPlaces.{place_of}
 use Rattle.mapdb_rights.specs.Live.{ShowUntil, ShowsOn}
 use Rattle.mapdb_rights.specs.PageRights.{is_record_into}
-use Rattle.mapdb_rights.specs.Revoked.{IsRevokedBelow}
 use Rattle.mapdb_rights.specs.Right.{rights_at}
-use Rattle.mapdb_rights.proofs.Rights.Revoked.{revoked_rights}
 use Rattle.mapdb_rights.proofs.Rights.FramesOn.{shows_on}
 use Rattle.mapdb_rights.proofs.Live.LiveRecords.{into_held}
-use Rattle.mapdb_rights.proofs.Rights.Walk.{rights_at-outside}
+use Rattle.mapdb_rights.proofs.Settling.Ended.{rights_in_place}
+use Rattle.mapdb_rights.proofs.Live.EmptyRights.{both_empty}
 
 -- what meets fewer pages meets more
 meets_more : (p : OwnPlace) (page least end : ℕ) → least ≤ end → own_meets p page least ≡ true → own_meets p page end ≡ true
@@ -83,7 +82,7 @@ module _ (set : Places) (space : Space) (cached : Cached) (page : ℕ) where
         ]
       ]
 
-  module _ (S : State) (named : IsNamed S) (listed : AreListed S set) (rights : AreRights S cached) (end : ℕ) where
+  module _ (S : State) (named : IsNamed S) (lives : AreLive S set) (rights : AreRights S cached) (end : ℕ) where
     stays_shows : (id : RecordId) → Stays id end → (count : ℕ) → page + count < end → ShowsOn S id page count
     stays_shows id h count before = shows_on S id page count (sym (rights id (page + count)) ∙ h (page + count) (omega arith) before ∙ rights id page)
 
@@ -100,35 +99,29 @@ module _ (set : Places) (space : Space) (cached : Cached) (page : ℕ) where
         ]
       where
         of_held : is_root id ≡ false → ((r : Record) × (S.record_at id ≡ Some r) × (same_space r.space space ≡ true)) → (count : ℕ) → page + count < end → ShowsOn S id page count
-        of_held other (r, at, in_space) = elim (cases_Bool (own_meets (own_place (place_of r)) page end)) [
-          | inl meeting ↦ elim is_there.by_space [
-            | inr has ↦
-                stays_shows id (subst (λ (i : RecordId). Stays i end) (named id r at)
-                (h (own_place (place_of r)) (there set (owners.Space space) places are (place_of r) owned has) meeting))
-            | inl below ↦ λ count before. shows_on S id page count (gone below (page + count) ∙ sym (gone below page))
-          ]
-          | inr apart ↦ λ count before. shows_on S id page count (outside apart (page + count) (omega arith) before ∙ sym (outside apart page (omega arith) (omega arith)))
-        ]
+        of_held other (r, at, in_space) count before =
+            elim (cases_Bool (is_empty (rights_at S id page))) [
+              | inr some ↦ listed_shows (page, some) page (omega arith) (omega arith) some
+              | inl none ↦ elim (cases_Bool (is_empty (rights_at S id (page + count)))) [
+                | inr some ↦ listed_shows (page + count, some) (page + count) (omega arith) before some
+                | inl gone ↦ shows_on S id page count (both_empty (rights_at S id (page + count)) (rights_at S id page) gone none)
+              ]
+            ]
           where
             held : Holds S r
             held = subst (λ (i : RecordId). S.record_at i ≡ Some r) (sym (named id r at)) at
 
-            is_there : IsListed S set r
-            is_there = listed.places r held
-
-            gone : IsRevokedBelow S r → (q : ℕ) → rights_at S id q ≡ no_rights
-            gone below q =
-                ap (λ (i : RecordId). rights_at S i q) (sym (named id r at))
-                ∙ revoked_rights S r below.own (subst (λ (i : RecordId). is_root i ≡ false) (sym (named id r at)) other) held q
-
             owned : (place_of r).owner ≡ owners.Space space
             owned = ap owners.Space (same_space_true r.space space in_space)
 
-            outside : own_meets (own_place (place_of r)) page end ≡ false → (q : ℕ) → page ≤ q → q < end → rights_at S id q ≡ no_rights
-            outside apart q low before = rights_at-outside S id r q other at (elim (cases_Bool (holds r.place q)) [
-              | inl inside ↦ absurd (true≢false (sym (meets_holding r page end q inside low before) ∙ apart))
-              | inr not_inside ↦ not_inside
-            ])
+            -- a record with a right at one of the pages is listed, and meets them
+            listed_shows : HasSome (rights_at S id) → (q : ℕ) → page ≤ q → q < end → is_empty (rights_at S id q) ≡ false → ShowsOn S id page count
+            listed_shows has q low high some =
+                let there_is = lives.listed.places r held (subst (λ (i : RecordId). HasSome (rights_at S i)) (sym (named id r at)) has) in
+                let inside : holds r.place q ≡ true = rights_in_place S id r q other at some in
+                stays_shows id (subst (λ (i : RecordId). Stays i end) (named id r at)
+                (h (own_place (place_of r)) (there set (owners.Space space) places are (place_of r) owned there_is) (meets_holding r page end q inside low high)))
+                count before
 
     -- behind the last place all were passed
     pub passed_all : (own : OwnPlaces) → owner_places set (owners.Space space) ≡ own_list own → (sweep : Sweep) → (is_first_space space ≡ true → Stays root end)

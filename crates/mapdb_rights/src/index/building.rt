@@ -1,9 +1,10 @@
 //! Cached rights of whole facts.
 
-ghost use Rattle.std.specs.Prelude.{◌≡◌, [], None, OnOk};
+ghost use Rattle.std.specs.Prelude.{◌≡◌, [], false, None, OnOk};
 ghost use Rattle.mapdb_facts.specs.Facts.{state_of_facts};
 ghost use Rattle.mapdb_facts.specs.declared.names.RecordId.{RecordId};
-ghost use Rattle.mapdb_lists.specs.Listing.{AllAligned, held_record};
+ghost use Rattle.mapdb_lists.specs.Listing.{AllAligned, held_record, is_listed};
+ghost use Rattle.mapdb_lists.specs.declared.places.Listed.{Listed};
 ghost use Rattle.mapdb_rights.specs.HeldPlaces.{AreOfHeld};
 ghost use Rattle.mapdb_rights.specs.Following.{Stands};
 
@@ -21,6 +22,7 @@ use std::alloc::{AllocError, Global};
 pub fn settle_all(
     changes: &mut AllChanges,
     listed: &mut Places,
+    live: &mut Places,
     alloc: Global,
     facts: &Facts,
 ) -> Result<(), AllocError>
@@ -28,7 +30,8 @@ pub fn settle_all(
     requires listed { AllAligned listed.old }
     requires held { AreOfHeld (state_of_facts facts.now) listed.old }
     requires none { (id : RecordId) → held_record listed.old id ≡ None }
-    ensures { OnOk result (Stands changes.new listed.new (state_of_facts facts.now)) }
+    requires no_place { (e : Listed) → is_listed live.old e ≡ false }
+    ensures { OnOk result (Stands changes.new listed.new live.new (state_of_facts facts.now)) }
 {
     list_records(listed, facts)?;
     let mut stack = Vec::new(alloc);
@@ -38,7 +41,7 @@ pub fn settle_all(
         end: PAGE_LIMIT,
     })?;
     push_children(&mut stack, listed, facts, RecordId::ROOT, 0, PAGE_LIMIT)?;
-    settle(changes, &mut stack, listed, facts)?;
+    settle(changes, live, &mut stack, listed, facts)?;
     unlist_revoked(listed, facts);
     Ok(())
 }

@@ -8,7 +8,7 @@ ghost use Rattle.mapdb_facts.specs.Names.{same_id, same_space};
 ghost use Rattle.mapdb_facts.specs.WellFormed.{IsFormedRecord};
 ghost use Rattle.mapdb_facts.specs.declared.names.RecordId.{RecordId};
 ghost use Rattle.mapdb_facts.specs.declared.operations.Record.{Record};
-ghost use Rattle.mapdb_lists.specs.Listing.{is_listed, listed_len, own_place};
+ghost use Rattle.mapdb_lists.specs.Listing.{AllAligned, is_listed, listed_len, own_place};
 ghost use Rattle.mapdb_lists.specs.OwnPlaces.{AreAligned, own_list, stands};
 ghost use Rattle.mapdb_rights.specs.Following.{AreListed};
 ghost use Rattle.mapdb_rights.specs.HeldPlaces.{place_of, source_of};
@@ -183,20 +183,22 @@ fn push_places(
     Ok(())
 }
 
-/// The pages of all records into a space join what is stale.
+/// The pages of all records into a space that have a right at some page join what is stale.
 pub(crate) fn push_space(
     stack: &mut Vec<Stale>,
+    live: &Places,
     listed: &Places,
     facts: &Facts,
     space: Space,
 ) -> Result<(), AllocError>
-    requires { AreListed (state_of_facts facts.now) listed.now }
+    requires aligned { AllAligned live.now }
+    requires listed { AreListed (state_of_facts facts.now) listed.now }
     ensures { OnOk result ((r : Record) → Holds (state_of_facts facts.now) r → IsPlace r.place
-        → is_listed listed.now (place_of r) ≡ true
+        → is_listed live.now (place_of r) ≡ true
         → same_space space r.space ≡ true → (page : ℕ) → holds r.place page ≡ true
         → IsPending stack.new.items r.id page) }
 {
-    match listed.own(Owner::Space(space)) {
+    match live.own(Owner::Space(space)) {
         Some(own) => push_places(stack, own, listed, facts),
         None => Ok(()),
     }

@@ -11,7 +11,7 @@ ghost use Rattle.mapdb_lists.specs.declared.places.Owner.TheVariants as owners;
 ghost use Rattle.mapdb_rights.specs.Among.{is_shown};
 ghost use Rattle.mapdb_rights.specs.First.{IsBehindFirst, IsFirstFound, IsFirstOfAll, both_of};
 ghost use Rattle.mapdb_rights.specs.First.{earlier_of, first_where, first_with};
-ghost use Rattle.mapdb_rights.specs.Following.{Stands};
+ghost use Rattle.mapdb_rights.specs.Following.{Shows};
 ghost use Rattle.mapdb_rights.specs.Live.{IsLive};
 ghost use Rattle.mapdb_rights.specs.PageRights.{is_record_into};
 
@@ -66,14 +66,8 @@ impl First {
 }
 
 /// The root, where it is of the space and has a right at the page.
-fn root_first(
-    changes: &AllChanges,
-    listed: &Places,
-    facts: &Facts,
-    space: Space,
-    page: u64,
-) -> First
-    requires { Stands changes.now listed.now (state_of_facts facts.now) }
+fn root_first(changes: &AllChanges, live: &Places, facts: &Facts, space: Space, page: u64) -> First
+    requires { Shows changes.now live.now (state_of_facts facts.now) }
     ensures found { IsFirstFound (state_of_facts facts.now) changes.now.own.entries space page
         result }
     ensures there { IsLive (state_of_facts facts.now) space page root
@@ -94,13 +88,13 @@ fn root_first(
 fn with_record(
     found: First,
     changes: &AllChanges,
-    listed: &Places,
+    live: &Places,
     facts: &Facts,
     space: Space,
     page: u64,
     id: RecordId,
 ) -> First
-    requires stands { Stands changes.now listed.now (state_of_facts facts.now) }
+    requires stands { Shows changes.now live.now (state_of_facts facts.now) }
     requires into { is_record_into ((state_of_facts facts.now).record_at id) space ≡ true }
     ensures { result ≡ first_where (is_shown (state_of_facts facts.now) space page id) id
         (seen_in changes.now.own.entries id page) found }
@@ -116,20 +110,20 @@ fn with_record(
 fn first_among(
     own: &OwnPlaces,
     changes: &AllChanges,
-    listed: &Places,
+    live: &Places,
     facts: &Facts,
     space: Space,
     page: u64,
 ) -> First
-    requires stands { Stands changes.now listed.now (state_of_facts facts.now) }
-    requires places { owner_places listed.now (owners.Space space) ≡ own_list own.now }
+    requires stands { Shows changes.now live.now (state_of_facts facts.now) }
+    requires places { owner_places live.now (owners.Space space) ≡ own_list own.now }
     ensures { IsFirstOfAll (state_of_facts facts.now) changes.now.own.entries space page result }
 {
     let end = page.saturating_add(1);
-    let mut found = root_first(changes, listed, facts, space, page);
+    let mut found = root_first(changes, live, facts, space, page);
     let mut sweep = Sweep::start();
     'places: while let Some(next) = own.next_place(page, end, sweep) {
-        found = with_record(found, changes, listed, facts, space, page, next.place.id);
+        found = with_record(found, changes, live, facts, space, page, next.place.id);
         sweep = next.sweep;
     }
     found
@@ -139,16 +133,16 @@ fn first_among(
 /// of them. It takes no memory.
 pub(crate) fn first_live(
     changes: &AllChanges,
-    listed: &Places,
+    live: &Places,
     facts: &Facts,
     space: Space,
     page: u64,
 ) -> First
-    requires { Stands changes.now listed.now (state_of_facts facts.now) }
+    requires { Shows changes.now live.now (state_of_facts facts.now) }
     ensures { IsFirstOfAll (state_of_facts facts.now) changes.now.own.entries space page result }
 {
-    match listed.own(Owner::Space(space)) {
-        Some(own) => first_among(own, changes, listed, facts, space, page),
-        None => root_first(changes, listed, facts, space, page),
+    match live.own(Owner::Space(space)) {
+        Some(own) => first_among(own, changes, live, facts, space, page),
+        None => root_first(changes, live, facts, space, page),
     }
 }

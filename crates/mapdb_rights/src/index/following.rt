@@ -8,7 +8,7 @@ ghost use Rattle.mapdb_facts.specs.declared.operations.Op.{Op};
 ghost use Rattle.mapdb_rights.specs.Following.{Stood, Stands};
 
 use super::children::push_space;
-use super::listing::{list_held, list_parent};
+use super::listing::list_came;
 use super::settling::settle;
 use super::stale::Stale;
 use super::unlisting::unlist;
@@ -20,23 +20,24 @@ use std::alloc::{AllocError, Global};
 pub fn follow_record(
     changes: &mut AllChanges,
     listed: &mut Places,
+    live: &mut Places,
     alloc: Global,
     facts: &Facts,
     mapping: &Record,
 ) -> Result<(), AllocError>
     requires formed { is_formed (Op.Born mapping.now) ≡ true }
-    requires stood { Stood changes.old listed.old (Op.Born mapping.now) (state_of_facts facts.now) }
-    ensures { OnOk result (Stands changes.new listed.new (state_of_facts facts.now)) }
+    requires stood { Stood changes.old listed.old live.old (Op.Born mapping.now)
+        (state_of_facts facts.now) }
+    ensures { OnOk result (Stands changes.new listed.new live.new (state_of_facts facts.now)) }
 {
-    list_held(listed, facts, mapping.id)?;
-    list_parent(listed, facts, mapping.parent)?;
+    list_came(listed, facts, mapping)?;
     let mut stack = Vec::new(alloc);
     stack.push(Stale {
         id: mapping.id,
         first: mapping.place.first_page(),
         end: mapping.place.end(),
     })?;
-    settle(changes, &mut stack, listed, facts)
+    settle(changes, live, &mut stack, listed, facts)
 }
 
 /// Rights were taken from a part of a record: it loses them, and what has its pages from there
@@ -44,13 +45,15 @@ pub fn follow_record(
 pub fn follow_cut(
     changes: &mut AllChanges,
     listed: &mut Places,
+    live: &mut Places,
     alloc: Global,
     facts: &Facts,
     cut: &Revocation,
 ) -> Result<(), AllocError>
     requires formed { is_formed (Op.Cut cut.now) ≡ true }
-    requires stood { Stood changes.old listed.old (Op.Cut cut.now) (state_of_facts facts.now) }
-    ensures { OnOk result (Stands changes.new listed.new (state_of_facts facts.now)) }
+    requires stood { Stood changes.old listed.old live.old (Op.Cut cut.now)
+        (state_of_facts facts.now) }
+    ensures { OnOk result (Stands changes.new listed.new live.new (state_of_facts facts.now)) }
 {
     let mut stack = Vec::new(alloc);
     stack.push(Stale {
@@ -58,7 +61,7 @@ pub fn follow_cut(
         first: cut.part.first_page(),
         end: cut.part.end(),
     })?;
-    settle(changes, &mut stack, listed, facts)?;
+    settle(changes, live, &mut stack, listed, facts)?;
     unlist(listed, facts, cut.target);
     Ok(())
 }
@@ -67,14 +70,16 @@ pub fn follow_cut(
 pub fn follow_end(
     changes: &mut AllChanges,
     listed: &Places,
+    live: &mut Places,
     alloc: Global,
     facts: &Facts,
     space: Space,
 ) -> Result<(), AllocError>
-    requires stood { Stood changes.old listed.now (Op.Closed space) (state_of_facts facts.now) }
-    ensures { OnOk result (Stands changes.new listed.now (state_of_facts facts.now)) }
+    requires stood { Stood changes.old listed.now live.old (Op.Closed space)
+        (state_of_facts facts.now) }
+    ensures { OnOk result (Stands changes.new listed.now live.new (state_of_facts facts.now)) }
 {
     let mut stack = Vec::new(alloc);
-    push_space(&mut stack, listed, facts, space)?;
-    settle(changes, &mut stack, listed, facts)
+    push_space(&mut stack, live, listed, facts, space)?;
+    settle(changes, live, &mut stack, listed, facts)
 }

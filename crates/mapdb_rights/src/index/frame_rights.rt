@@ -9,7 +9,7 @@ ghost use Rattle.mapdb_lists.specs.Listing.{owner_places};
 ghost use Rattle.mapdb_lists.specs.OwnPlaces.{own_list};
 ghost use Rattle.mapdb_lists.specs.declared.places.Owner.TheVariants as owners;
 ghost use Rattle.mapdb_rights.specs.First.{AreAsFar, IsAllAsFar, IsJoined, joined_as_far};
-ghost use Rattle.mapdb_rights.specs.Following.{Stands};
+ghost use Rattle.mapdb_rights.specs.Following.{Shows};
 ghost use Rattle.mapdb_rights.specs.Live.{IsLive};
 
 use mapdb_facts::{Facts, RecordId, Space};
@@ -31,13 +31,13 @@ fn with_record(known: Rights, changes: &AllChanges, page: u64, shift: u64, id: R
 /// The root's rights at the page, where it is of the space and its frame is so far from it.
 fn root_rights(
     changes: &AllChanges,
-    listed: &Places,
+    live: &Places,
     facts: &Facts,
     space: Space,
     page: u64,
     shift: u64,
 ) -> Rights
-    requires { Stands changes.now listed.now (state_of_facts facts.now) }
+    requires { Shows changes.now live.now (state_of_facts facts.now) }
     ensures found { AreAsFar (state_of_facts facts.now) changes.now.own.entries space page shift
         result }
     ensures there { IsLive (state_of_facts facts.now) space page root
@@ -55,19 +55,19 @@ fn root_rights(
 fn rights_among(
     own: &OwnPlaces,
     changes: &AllChanges,
-    listed: &Places,
+    live: &Places,
     facts: &Facts,
     space: Space,
     page: u64,
     shift: u64,
 ) -> Rights
-    requires stands { Stands changes.now listed.now (state_of_facts facts.now) }
-    requires places { owner_places listed.now (owners.Space space) ≡ own_list own.now }
+    requires stands { Shows changes.now live.now (state_of_facts facts.now) }
+    requires places { owner_places live.now (owners.Space space) ≡ own_list own.now }
     ensures { IsAllAsFar (state_of_facts facts.now) changes.now.own.entries space page shift
         result }
 {
     let end = page.saturating_add(1);
-    let mut known = root_rights(changes, listed, facts, space, page, shift);
+    let mut known = root_rights(changes, live, facts, space, page, shift);
     let mut sweep = Sweep::start();
     'places: while let Some(next) = own.next_place(page, end, sweep) {
         known = with_record(known, changes, page, shift, next.place.id);
@@ -80,18 +80,18 @@ fn rights_among(
 /// in the first space the root is one of them. It takes no memory.
 pub(crate) fn frame_rights(
     changes: &AllChanges,
-    listed: &Places,
+    live: &Places,
     facts: &Facts,
     space: Space,
     page: u64,
     shift: u64,
 ) -> Rights
-    requires { Stands changes.now listed.now (state_of_facts facts.now) }
+    requires { Shows changes.now live.now (state_of_facts facts.now) }
     ensures { IsAllAsFar (state_of_facts facts.now) changes.now.own.entries space page shift
         result }
 {
-    match listed.own(Owner::Space(space)) {
-        Some(own) => rights_among(own, changes, listed, facts, space, page, shift),
-        None => root_rights(changes, listed, facts, space, page, shift),
+    match live.own(Owner::Space(space)) {
+        Some(own) => rights_among(own, changes, live, facts, space, page, shift),
+        None => root_rights(changes, live, facts, space, page, shift),
     }
 }

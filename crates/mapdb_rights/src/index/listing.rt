@@ -8,11 +8,12 @@ ghost use Rattle.mapdb_facts.specs.Looking.{Holds};
 ghost use Rattle.mapdb_facts.specs.Merging.{IsNamed};
 ghost use Rattle.mapdb_facts.specs.WellFormed.{IsFormedRecord};
 ghost use Rattle.mapdb_facts.specs.declared.names.RecordId.{RecordId};
+ghost use Rattle.mapdb_facts.specs.declared.operations.Op.{Op};
 ghost use Rattle.mapdb_facts.specs.declared.operations.Record.{Record};
 ghost use Rattle.mapdb_lists.specs.Listing.{AllAligned, IsAligned, held_record, held_with};
 ghost use Rattle.mapdb_lists.specs.Listing.{is_listed};
 ghost use Rattle.mapdb_lists.specs.declared.places.Listed.{Listed};
-ghost use Rattle.mapdb_rights.specs.Following.{AreListed};
+ghost use Rattle.mapdb_rights.specs.Following.{AreListed, WereListed};
 ghost use Rattle.mapdb_rights.specs.HeldPlaces.{AreHeldOf, AreOfHeld, HasBoth, place_of, source_of};
 ghost use Rattle.mapdb_rights.specs.Revoked.{IsRevoked};
 
@@ -49,7 +50,7 @@ pub(crate) fn source_of(mapping: &Record) -> Listed
 }
 
 /// Lists one place more.
-fn list_place(listed: &mut Places, place: Listed) -> Result<(), AllocError>
+pub(crate) fn list_place(listed: &mut Places, place: Listed) -> Result<(), AllocError>
     requires place { IsAligned place }
     requires aligned { AllAligned listed.old }
     ensures aligned { OnOk result (AllAligned listed.new) }
@@ -86,7 +87,7 @@ pub(crate) fn list_record(listed: &mut Places, mapping: &Record) -> Result<(), A
 
 /// Lists the record that is held under a name, where there is one. Each held record stands under
 /// its own name and is well-formed.
-pub(crate) fn list_held(listed: &mut Places, facts: &Facts, id: RecordId) -> Result<(), AllocError>
+fn list_held(listed: &mut Places, facts: &Facts, id: RecordId) -> Result<(), AllocError>
     requires aligned { AllAligned listed.old }
     requires held { AreOfHeld (state_of_facts facts.now) listed.old }
     ensures aligned { OnOk result (AllAligned listed.new) }
@@ -108,11 +109,7 @@ pub(crate) fn list_held(listed: &mut Places, facts: &Facts, id: RecordId) -> Res
 
 /// Lists the place of a new child's parent again, where it may be missing: where the parent is held
 /// and revoked. There may be something to revoke below it now.
-pub(crate) fn list_parent(
-    listed: &mut Places,
-    facts: &Facts,
-    parent: RecordId,
-) -> Result<(), AllocError>
+fn list_parent(listed: &mut Places, facts: &Facts, parent: RecordId) -> Result<(), AllocError>
     requires aligned { AllAligned listed.old }
     requires held { AreOfHeld (state_of_facts facts.now) listed.old }
     requires named { IsNamed (state_of_facts facts.now) }
@@ -129,6 +126,20 @@ pub(crate) fn list_parent(
         Some(mapping) if is_revoked(facts, &mapping) => list_place(listed, place_of(&mapping)),
         _ => Ok(()),
     }
+}
+
+/// Lists a record that came, and the place of its parent again where it may be missing.
+pub(crate) fn list_came(
+    listed: &mut Places,
+    facts: &Facts,
+    mapping: &Record,
+) -> Result<(), AllocError>
+    requires { WereListed listed.old (Op.Born mapping.now) (state_of_facts facts.now) }
+    ensures { OnOk result (AreListed (state_of_facts facts.now) listed.new) }
+{
+    list_held(listed, facts, mapping.id)?;
+    list_parent(listed, facts, mapping.parent)?;
+    Ok(())
 }
 
 /// Lists each held record, where none was held before.

@@ -9,7 +9,7 @@ ghost use Rattle.mapdb_lists.specs.Listing.{IsFirstInside};
 ghost use Rattle.mapdb_lists.specs.declared.places.Owner.TheVariants as owners;
 ghost use Rattle.mapdb_rights.specs.Among.{behind_name, IsLeastOf, IsLiveRoot, IsShown, IsShownAt};
 ghost use Rattle.mapdb_rights.specs.Among.{StandsAt, is_shown, lesser};
-ghost use Rattle.mapdb_rights.specs.Following.{Stands};
+ghost use Rattle.mapdb_rights.specs.Following.{Shows};
 ghost use Rattle.mapdb_rights.specs.Live.{IsLive, IsLiveFrom, live_names};
 ghost use Rattle.mapdb_rights.specs.PageRights.{is_record_into};
 ghost use Rattle.mapdb_rights.specs.Right.{rights_at};
@@ -32,12 +32,12 @@ fn lesser(one: Option<RecordId>, other: Option<RecordId>) -> Option<RecordId>
 
 /// The first entry of a place's owner that stands at the place under a name above another, or
 /// behind the place.
-fn entry_after(listed: &Places, place: Listed, after: Option<RecordId>) -> Option<Listed>
-    ensures { IsFirstInside listed.now place.owner (behind_name place after) result }
+fn entry_after(live: &Places, place: Listed, after: Option<RecordId>) -> Option<Listed>
+    ensures { IsFirstInside live.now place.owner (behind_name place after) result }
 {
     match after {
-        Some(id) => listed.first_above(Listed { id, ..place }),
-        None => listed.first_from(Listed {
+        Some(id) => live.first_above(Listed { id, ..place }),
+        None => live.first_from(Listed {
             id: RecordId::ROOT,
             ..place
         }),
@@ -45,10 +45,10 @@ fn entry_after(listed: &Places, place: Listed, after: Option<RecordId>) -> Optio
 }
 
 /// The least name above another, or of all, that stands at the place.
-fn name_after(listed: &Places, place: Listed, after: Option<RecordId>) -> Option<RecordId>
-    ensures { IsLeastOf (StandsAt listed.now place) (StandsAt listed.now place) after result }
+fn name_after(live: &Places, place: Listed, after: Option<RecordId>) -> Option<RecordId>
+    ensures { IsLeastOf (StandsAt live.now place) (StandsAt live.now place) after result }
 {
-    match entry_after(listed, place, after) {
+    match entry_after(live, place, after) {
         Some(entry) if entry.order == place.order && entry.first == place.first => Some(entry.id),
         _ => None,
     }
@@ -57,13 +57,13 @@ fn name_after(listed: &Places, place: Listed, after: Option<RecordId>) -> Option
 /// Whether the name, which is that of a record into the space, has a right at the page.
 fn is_shown(
     changes: &AllChanges,
-    listed: &Places,
+    live: &Places,
     facts: &Facts,
     space: Space,
     page: u64,
     id: RecordId,
 ) -> bool
-    requires stands { Stands changes.now listed.now (state_of_facts facts.now) }
+    requires stands { Shows changes.now live.now (state_of_facts facts.now) }
     requires into { is_record_into ((state_of_facts facts.now).record_at id) space ≡ true }
     ensures { result ≡ is_shown (state_of_facts facts.now) space page id }
 {
@@ -74,21 +74,21 @@ fn is_shown(
 /// right at the page.
 fn shown_after(
     changes: &AllChanges,
-    listed: &Places,
+    live: &Places,
     facts: &Facts,
     space: Space,
     page: u64,
     place: Listed,
     after: Option<RecordId>,
 ) -> Option<RecordId>
-    requires stands { Stands changes.now listed.now (state_of_facts facts.now) }
+    requires stands { Shows changes.now live.now (state_of_facts facts.now) }
     requires owned { place.owner ≡ owners.Space space }
     ensures { IsLeastOf (IsShown (state_of_facts facts.now) space page)
-        (IsShownAt listed.now (state_of_facts facts.now) space page place) after result }
+        (IsShownAt live.now (state_of_facts facts.now) space page place) after result }
 {
     let mut from = after;
-    'names: while let Some(id) = name_after(listed, place, from) {
-        if is_shown(changes, listed, facts, space, page, id) {
+    'names: while let Some(id) = name_after(live, place, from) {
+        if is_shown(changes, live, facts, space, page, id) {
             return Some(id);
         }
         from = Some(id);
@@ -100,13 +100,13 @@ fn shown_after(
 /// it.
 fn root_comes(
     changes: &AllChanges,
-    listed: &Places,
+    live: &Places,
     facts: &Facts,
     space: Space,
     page: u64,
     after: Option<RecordId>,
 ) -> bool
-    requires { Stands changes.now listed.now (state_of_facts facts.now) }
+    requires { Shows changes.now live.now (state_of_facts facts.now) }
     ensures { result ≡ (is_after after root && is_first_space space
         && not (is_empty (rights_at (state_of_facts facts.now) root page))) }
 {
@@ -116,17 +116,17 @@ fn root_comes(
 /// The root, where it comes.
 fn root_after(
     changes: &AllChanges,
-    listed: &Places,
+    live: &Places,
     facts: &Facts,
     space: Space,
     page: u64,
     after: Option<RecordId>,
 ) -> Option<RecordId>
-    requires { Stands changes.now listed.now (state_of_facts facts.now) }
+    requires { Shows changes.now live.now (state_of_facts facts.now) }
     ensures { IsLeastOf (IsLive (state_of_facts facts.now) space page)
         (IsLiveRoot (state_of_facts facts.now) space page) after result }
 {
-    if root_comes(changes, listed, facts, space, page, after) {
+    if root_comes(changes, live, facts, space, page, after) {
         Some(RecordId::ROOT)
     } else {
         None
@@ -148,21 +148,21 @@ fn behind_order(entry: Listed) -> Listed
 /// page, and its names ascend.
 pub(crate) fn live_after(
     changes: &AllChanges,
-    listed: &Places,
+    live: &Places,
     facts: &Facts,
     space: Space,
     page: u64,
     after: Option<RecordId>,
 ) -> Option<RecordId>
-    requires { Stands changes.now listed.now (state_of_facts facts.now) }
+    requires { Shows changes.now live.now (state_of_facts facts.now) }
     ensures { IsLiveFrom (state_of_facts facts.now) space page after result }
 {
     let owner = Owner::Space(space);
     let end = page.saturating_add(1);
-    let mut found = root_after(changes, listed, facts, space, page, after);
+    let mut found = root_after(changes, live, facts, space, page, after);
     let mut passed = None;
-    'orders: while let Some(entry) = listed.next_meeting(owner, page, end, passed) {
-        let shown = shown_after(changes, listed, facts, space, page, entry, after);
+    'orders: while let Some(entry) = live.next_meeting(owner, page, end, passed) {
+        let shown = shown_after(changes, live, facts, space, page, entry, after);
         found = lesser(found, shown);
         passed = Some(behind_order(entry));
     }
@@ -174,18 +174,18 @@ pub(crate) fn live_after(
 pub(crate) fn all_live(
     alloc: Global,
     changes: &AllChanges,
-    listed: &Places,
+    live: &Places,
     facts: &Facts,
     space: Space,
     page: u64,
 ) -> Result<Vec<RecordId>, AllocError>
-    requires { Stands changes.now listed.now (state_of_facts facts.now) }
+    requires { Shows changes.now live.now (state_of_facts facts.now) }
     ensures { IfOk result (λ found. found.items
         ≡ live_names (state_of_facts facts.now) (records_of_facts facts.now) space page) }
 {
     let mut found = Vec::new(alloc);
     let mut after = None;
-    'names: while let Some(id) = live_after(changes, listed, facts, space, page, after) {
+    'names: while let Some(id) = live_after(changes, live, facts, space, page, after) {
         found.push(id)?;
         after = Some(id);
     }

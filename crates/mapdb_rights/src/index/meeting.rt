@@ -13,6 +13,7 @@ impl RightsIndex {
     ghost use Rattle.mapdb_facts.specs.WellFormed.{IsFormedRecord};
     ghost use Rattle.mapdb_rights.specs.AllBut.{IsAllBut};
     ghost use Rattle.mapdb_rights.specs.Index.{KeepsUp};
+    ghost use Rattle.mapdb_rights.specs.LivePlaces.{IsPowerless};
     ghost use Rattle.mapdb_rights.specs.Meeting.{children_of, holders_of};
     ghost use Rattle.mapdb_rights.specs.Revoked.{IsRevoked, IsRevokedBelow};
 
@@ -38,7 +39,34 @@ impl RightsIndex {
         if self.absent {
             return Ok(None);
         }
-        let found = all_sharing(self.alloc, &self.listed, facts, Owner::Space(space), part)?;
+        let (listed, owner) = (&self.listed, Owner::Space(space));
+        let found = all_sharing(self.alloc, listed, listed, facts, owner, part)?;
+        Ok(Some(found))
+    }
+
+    /// The records of a space that have a right at some page and whose places share pages with this
+    /// one, in ascending order of name: all but some of the space's records without any right. None
+    /// where the index is absent. An error where memory ran out for the list.
+    pub fn live_holders(
+        &self,
+        facts: &Facts,
+        space: Space,
+        part: &Fpage,
+    ) -> Result<Option<Vec<Record>>, AllocError>
+        requires { KeepsUp self.now (state_of_facts facts.now) }
+        ensures absent { self.now.absent ≡ true → result ≡ Ok None }
+        ensures there { self.now.absent ≡ false → IfOk result (λ found. IsSome found) }
+        ensures holders { IfOk result (λ found. IfSome found (λ list.
+            IsAllBut (IsPowerless (state_of_facts facts.now))
+            (holders_of (records_of_facts facts.now) space part.now) list.items)) }
+        ensures formed { IfOk result (λ found. IfSome found
+            (λ list. All IsFormedRecord list.items)) }
+    {
+        if self.absent {
+            return Ok(None);
+        }
+        let (live, owner) = (&self.live, Owner::Space(space));
+        let found = all_sharing(self.alloc, live, &self.listed, facts, owner, part)?;
         Ok(Some(found))
     }
 
@@ -63,7 +91,8 @@ impl RightsIndex {
         if self.absent {
             return Ok(None);
         }
-        let found = all_sharing(self.alloc, &self.listed, facts, Owner::Record(parent), part)?;
+        let (listed, owner) = (&self.listed, Owner::Record(parent));
+        let found = all_sharing(self.alloc, listed, listed, facts, owner, part)?;
         Ok(Some(found))
     }
 }

@@ -6,7 +6,7 @@ ghost use Rattle.mapdb_facts.specs.Names.{root};
 ghost use Rattle.mapdb_lists.specs.Listing.{owner_places};
 ghost use Rattle.mapdb_lists.specs.OwnPlaces.{own_list};
 ghost use Rattle.mapdb_lists.specs.declared.places.Owner.TheVariants as owners;
-ghost use Rattle.mapdb_rights.specs.Following.{Stands};
+ghost use Rattle.mapdb_rights.specs.Following.{Shows};
 ghost use Rattle.mapdb_rights.specs.Live.{IsLive};
 ghost use Rattle.mapdb_rights.specs.PagePairs.{ArePagePairs, AreShown, HasPairAmong, with_shown};
 ghost use Rattle.mapdb_rights.specs.PageRights.{pair_at};
@@ -19,12 +19,12 @@ use std::alloc::{AllocError, Global};
 /// What is cached of a record at a page: its frame with its rights, where it has any.
 fn pair_of(
     changes: &AllChanges,
-    listed: &Places,
+    live: &Places,
     facts: &Facts,
     id: RecordId,
     page: u64,
 ) -> Option<(u64, Rights)>
-    requires { Stands changes.now listed.now (state_of_facts facts.now) }
+    requires { Shows changes.now live.now (state_of_facts facts.now) }
     ensures { result ≡ pair_at (state_of_facts facts.now) id page }
 {
     let change = seen_at(changes, id, page);
@@ -48,12 +48,12 @@ fn add_shown(pairs: &mut Vec<(u64, Rights)>, shown: Option<(u64, Rights)>) -> Re
 fn root_pairs(
     alloc: Global,
     changes: &AllChanges,
-    listed: &Places,
+    live: &Places,
     facts: &Facts,
     space: Space,
     page: u64,
 ) -> Result<Vec<(u64, Rights)>, AllocError>
-    requires { Stands changes.now listed.now (state_of_facts facts.now) }
+    requires { Shows changes.now live.now (state_of_facts facts.now) }
     ensures shown { IfOk result (λ pairs. AreShown (state_of_facts facts.now) space page
         pairs.items) }
     ensures top { IfOk result (λ pairs. IsLive (state_of_facts facts.now) space page root
@@ -65,7 +65,7 @@ fn root_pairs(
     }
     add_shown(
         &mut pairs,
-        pair_of(changes, listed, facts, RecordId::ROOT, page),
+        pair_of(changes, live, facts, RecordId::ROOT, page),
     )?;
     Ok(pairs)
 }
@@ -75,23 +75,23 @@ fn pairs_among(
     own: &OwnPlaces,
     alloc: Global,
     changes: &AllChanges,
-    listed: &Places,
+    live: &Places,
     facts: &Facts,
     space: Space,
     page: u64,
 ) -> Result<Vec<(u64, Rights)>, AllocError>
-    requires stands { Stands changes.now listed.now (state_of_facts facts.now) }
-    requires places { owner_places listed.now (owners.Space space) ≡ own_list own.now }
+    requires stands { Shows changes.now live.now (state_of_facts facts.now) }
+    requires places { owner_places live.now (owners.Space space) ≡ own_list own.now }
     ensures { IfOk result (λ pairs. ArePagePairs (state_of_facts facts.now) space page
         pairs.items) }
 {
     let end = page.saturating_add(1);
-    let mut pairs = root_pairs(alloc, changes, listed, facts, space, page)?;
+    let mut pairs = root_pairs(alloc, changes, live, facts, space, page)?;
     let mut sweep = Sweep::start();
     'places: while let Some(next) = own.next_place(page, end, sweep) {
         add_shown(
             &mut pairs,
-            pair_of(changes, listed, facts, next.place.id, page),
+            pair_of(changes, live, facts, next.place.id, page),
         )?;
         sweep = next.sweep;
     }
@@ -103,17 +103,17 @@ fn pairs_among(
 pub(crate) fn page_pairs(
     alloc: Global,
     changes: &AllChanges,
-    listed: &Places,
+    live: &Places,
     facts: &Facts,
     space: Space,
     page: u64,
 ) -> Result<Vec<(u64, Rights)>, AllocError>
-    requires { Stands changes.now listed.now (state_of_facts facts.now) }
+    requires { Shows changes.now live.now (state_of_facts facts.now) }
     ensures { IfOk result (λ pairs. ArePagePairs (state_of_facts facts.now) space page
         pairs.items) }
 {
-    match listed.own(Owner::Space(space)) {
-        Some(own) => pairs_among(own, alloc, changes, listed, facts, space, page),
-        None => root_pairs(alloc, changes, listed, facts, space, page),
+    match live.own(Owner::Space(space)) {
+        Some(own) => pairs_among(own, alloc, changes, live, facts, space, page),
+        None => root_pairs(alloc, changes, live, facts, space, page),
     }
 }

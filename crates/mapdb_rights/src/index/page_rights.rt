@@ -30,7 +30,7 @@ impl RightsIndex {
         if self.absent {
             return Ok(None);
         }
-        let pairs = page_pairs(self.alloc, &self.changes, &self.listed, facts, space, page)?;
+        let pairs = page_pairs(self.alloc, &self.changes, &self.live, facts, space, page)?;
         Ok(Some(pairs))
     }
 }

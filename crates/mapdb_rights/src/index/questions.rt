@@ -35,7 +35,7 @@ impl RightsIndex {
         if self.absent {
             return None;
         }
-        Some(live_after(&self.changes, &self.listed, facts, space, page, after))
+        Some(live_after(&self.changes, &self.live, facts, space, page, after))
     }
 
     /// The names of all records of the space that have a right at the page, in ascending order; in
@@ -56,7 +56,7 @@ impl RightsIndex {
         if self.absent {
             return Ok(None);
         }
-        let names = all_live(self.alloc, &self.changes, &self.listed, facts, space, page)?;
+        let names = all_live(self.alloc, &self.changes, &self.live, facts, space, page)?;
         Ok(Some(names))
     }
 
@@ -75,7 +75,7 @@ impl RightsIndex {
         if self.absent {
             return None;
         }
-        Some(show_until(&self.changes, &self.listed, facts, space, page))
+        Some(show_until(&self.changes, &self.live, facts, space, page))
     }
 
     /// The end of pages, from one on, over which a record has equal rights; a name that is not held

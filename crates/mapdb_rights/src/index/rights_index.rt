@@ -12,8 +12,13 @@ use std::alloc::{AllocError, Global};
 /// memory makes it absent.
 #[derive(Drop)]
 pub struct RightsIndex {
+    /// The rights of each record from page to page, with frames.
     pub(crate) changes: AllChanges,
+    /// The places and sources of held records, but for what is revoked, and the records by name.
     pub(crate) listed: Places,
+    /// The places of the records with a right at some page.
+    pub(crate) live: Places,
+    /// Whether memory ran out: nothing is kept then.
     pub(crate) absent: bool,
     pub(crate) alloc: Global,
 }
@@ -50,6 +55,7 @@ impl RightsIndex {
         RightsIndex {
             changes: AllChanges::new(alloc),
             listed: Places::new(alloc),
+            live: Places::new(alloc),
             absent: false,
             alloc,
         }
@@ -61,10 +67,12 @@ impl RightsIndex {
     {
         let mut changes = AllChanges::new(alloc);
         let mut listed = Places::new(alloc);
-        settle_all(&mut changes, &mut listed, alloc, facts)?;
+        let mut live = Places::new(alloc);
+        settle_all(&mut changes, &mut listed, &mut live, alloc, facts)?;
         Ok(RightsIndex {
             changes,
             listed,
+            live,
             absent: false,
             alloc,
         })
@@ -87,14 +95,23 @@ impl RightsIndex {
             Op::Born(mapping) => follow_record(
                 &mut self.changes,
                 &mut self.listed,
+                &mut self.live,
                 self.alloc,
                 facts,
                 mapping,
             ),
-            Op::Cut(cut) => follow_cut(&mut self.changes, &mut self.listed, self.alloc, facts, cut),
+            Op::Cut(cut) => follow_cut(
+                &mut self.changes,
+                &mut self.listed,
+                &mut self.live,
+                self.alloc,
+                facts,
+                cut,
+            ),
             Op::Closed(space) => follow_end(
                 &mut self.changes,
                 &self.listed,
+                &mut self.live,
                 self.alloc,
                 facts,
                 *space,
@@ -113,6 +130,7 @@ impl RightsIndex {
         ensures memory { OnErr result (self.new.absent ≡ true) }
         ensures nothing_kept { OnErr result ((self.new.changes.own.entries ≡ [])
             × ((e : Listed) → is_listed self.new.listed e ≡ false)
+            × ((e : Listed) → is_listed self.new.live e ≡ false)
             × ((id : RecordId) → held_record self.new.listed id ≡ None)) }
         ensures absent { self.old.absent ≡ true → (result ≡ Ok tt) × (self.new ≡ self.old) }
     {
@@ -124,6 +142,7 @@ impl RightsIndex {
             Err(fault) => {
                 self.changes = AllChanges::new(self.alloc);
                 self.listed = Places::new(self.alloc);
+                self.live = Places::new(self.alloc);
                 self.absent = true;
                 Err(fault)
             }

@@ -1,14 +1,15 @@
 //! Runs of pages over which a record has the same rights.
 
-ghost use Rattle.std.specs.Prelude.{◌≡◌, ◌≤◌, ◌<◌, ◌+◌, [], ℕ, false, IfNone, IfOk, IfSome};
+ghost use Rattle.std.specs.Prelude.{◌≡◌, ◌≤◌, ◌<◌, ◌+◌, [], ℕ, false, true, IfNone, IfOk, IfSome};
 ghost use Rattle.mapdb_fpage.specs.RightSets.{is_empty};
 ghost use Rattle.mapdb_facts.specs.Adding.{same_rights};
 ghost use Rattle.mapdb_lists.specs.Changes.{cached_in};
+ghost use Rattle.mapdb_rights.specs.LivePlaces.{HasSome};
 ghost use Rattle.mapdb_rights.specs.RightsRuns.{IsFirstRightsRun, runs_behind};
 
 use mapdb_facts::RecordId;
 use mapdb_fpage::{PAGE_LIMIT, Rights};
-use mapdb_lists::{AllChanges, cached_at, unchanged_until};
+use mapdb_lists::{AllChanges, cached_at, stretch_at, unchanged_until};
 use std::alloc::{AllocError, Global};
 
 /// Pages of a record, one behind the other, over which it has the same rights, and not none.
@@ -25,6 +26,8 @@ pub struct RightsRun {
 /// The first page from one on where the record has some right.
 fn run_start(changes: &AllChanges, id: RecordId, page: u64) -> Option<u64>
     ensures none { IfNone result (runs_behind (cached_in changes.now.own.entries id) page ≡ []) }
+    ensures no_right { IfNone result ((q : ℕ) → page ≤ q
+        → is_empty (cached_in changes.now.own.entries id q) ≡ true) }
     ensures limit { IfSome result (λ start. start < PAGE_LIMIT) }
     ensures some { IfSome result (λ start. is_empty (cached_in changes.now.own.entries id start)
         ≡ false) }
@@ -33,12 +36,23 @@ fn run_start(changes: &AllChanges, id: RecordId, page: u64) -> Option<u64>
 {
     let mut start = page;
     'pages: while start < PAGE_LIMIT {
-        if !cached_at(changes, id, start).is_none() {
+        let own = stretch_at(changes, id, start);
+        if !own.change.rights.is_none() {
             return Some(start);
         }
-        start = unchanged_until(changes, id, start);
+        start = own.end;
     }
     None
+}
+
+/// Whether the record, which has these rights at this page, has a right at some page.
+pub(crate) fn has_some(changes: &AllChanges, id: RecordId, near: u64, rights: Rights) -> bool
+    requires near { rights ≡ cached_in changes.now.own.entries id near }
+    ensures some { result ≡ true → HasSome (cached_in changes.now.own.entries id) }
+    ensures none { result ≡ false → (page : ℕ)
+        → is_empty (cached_in changes.now.own.entries id page) ≡ true }
+{
+    !rights.is_none() || run_start(changes, id, 0).is_some()
 }
 
 /// The end of the pages from one on where the record has these same rights.

@@ -25,12 +25,12 @@ impl RightsIndex {
         if self.absent {
             return None;
         }
-        let (changes, listed) = (&self.changes, &self.listed);
-        let found = match first_live(changes, listed, facts, space, page) {
+        let (changes, live) = (&self.changes, &self.live);
+        let found = match first_live(changes, live, facts, space, page) {
             First::Nothing => None,
             First::Alike(_, change) => Some((change.frame(page), change.rights)),
             First::Mixed(_, change) => {
-                let rights = frame_rights(changes, listed, facts, space, page, change.shift);
+                let rights = frame_rights(changes, live, facts, space, page, change.shift);
                 Some((change.frame(page), rights))
             }
         };

@@ -7,14 +7,17 @@ ghost use Rattle.mapdb_facts.specs.Facts.{state_of_facts};
 ghost use Rattle.mapdb_facts.specs.declared.names.RecordId.{RecordId};
 ghost use Rattle.mapdb_lists.specs.Changes.{covers, cached_in};
 ghost use Rattle.mapdb_lists.specs.Listing.{listed_len};
-ghost use Rattle.mapdb_rights.specs.Caching.{AreRights, IsSettled};
+ghost use Rattle.mapdb_rights.specs.Caching.{IsSettled};
 ghost use Rattle.mapdb_rights.specs.CachedFrames.{AreFrames};
-ghost use Rattle.mapdb_rights.specs.Following.{AreListed};
+ghost use Rattle.mapdb_rights.specs.Following.{AreListed, Shows};
+ghost use Rattle.mapdb_rights.specs.LivePlaces.{ListsLive};
 ghost use Rattle.mapdb_rights.specs.Pending.{AreSettledBut, IsPending, base_of, share, weight};
 ghost use Rattle.mapdb_rights.specs.Pending.{worth};
 ghost use Rattle.mapdb_rights.specs.Stepping.{IsStep};
 
 use super::children::push_children;
+use super::live_places::follow_live;
+use super::runs::has_some;
 use super::stale::Stale;
 use super::stepping::{Step, step_at};
 use mapdb_facts::Facts;
@@ -23,38 +26,53 @@ use mapdb_lists::{AllChanges, Places, write};
 use std::alloc::AllocError;
 
 /// Pages over which all is steady get what follows from the parent. Where the rights are others
-/// than before, the pages of children that come from there join what is stale.
+/// than before, the record's place comes to those with rights or goes from them, and the pages of
+/// children that come from there join what is stale.
 fn settle_run(
     changes: &mut AllChanges,
+    live: &mut Places,
     stack: &mut Vec<Stale>,
     listed: &Places,
     facts: &Facts,
-    stale: Stale,
-    end: u64,
+    run: Stale,
     next: Step,
 ) -> Result<(), AllocError>
     requires listed { AreListed (state_of_facts facts.now) listed.now }
     requires frames { AreFrames (state_of_facts facts.now) changes.old.own.entries }
-    requires step { IsStep (state_of_facts facts.now) changes.old.own.entries
-        stale.id stale.first next }
-    requires some { stale.first < end }
-    requires within { end ≤ next.end }
+    requires live { ListsLive (state_of_facts facts.now) (cached_in changes.old.own.entries)
+        live.old }
+    requires step { IsStep (state_of_facts facts.now) changes.old.own.entries run.id run.first
+        next }
+    requires some { run.first < run.end }
+    requires within { run.end ≤ next.end }
     ensures frames { OnOk result (AreFrames (state_of_facts facts.now) changes.new.own.entries) }
+    ensures live { OnOk result (ListsLive (state_of_facts facts.now)
+        (cached_in changes.new.own.entries) live.new) }
     ensures settled { OnOk result ((id : RecordId) (page : ℕ)
         → IsSettled (state_of_facts facts.now) (cached_in changes.old.own.entries) id page
-        ⊎ (covers stale.id stale.first end id page ≡ true)
+        ⊎ (covers run.id run.first run.end id page ≡ true)
         → IsSettled (state_of_facts facts.now) (cached_in changes.new.own.entries) id page
         ⊎ IsPending stack.new.items id page) }
     ensures pending { OnOk result ((id : RecordId) (page : ℕ) → IsPending stack.old.items id page
         → IsPending stack.new.items id page) }
     ensures weight { OnOk result ((base : ℕ) → 0 < base → weight base stack.new.items
-        ≤ weight base stack.old.items + listed_len listed.now * share base (stale.id.number + 1)) }
+        ≤ weight base stack.old.items + listed_len listed.now * share base (run.id.number + 1)) }
 {
     if next.change.rights == next.old.rights {
         return Ok(());
     }
-    write(changes, stale.id, stale.first, end, next.old, next.change)?;
-    push_children(stack, listed, facts, stale.id, stale.first, end)
+    let had_some = has_some(changes, run.id, run.first, next.old.rights);
+    write(changes, run.id, run.first, run.end, next.old, next.change)?;
+    follow_live(
+        live,
+        changes,
+        listed,
+        facts,
+        run,
+        next.change.rights,
+        had_some,
+    )?;
+    push_children(stack, listed, facts, run.id, run.first, run.end)
 }
 
 /// Those of the pages that begin at the end of a run stay stale.
@@ -80,6 +98,7 @@ fn keep_rest(stack: &mut Vec<Stale>, stale: Stale, end: u64) -> Result<(), Alloc
 /// Settles the first of these pages, as far as all is steady. The others stay stale.
 fn settle_next(
     changes: &mut AllChanges,
+    live: &mut Places,
     stack: &mut Vec<Stale>,
     listed: &Places,
     facts: &Facts,
@@ -89,7 +108,11 @@ fn settle_next(
     requires settled { AreSettledBut (state_of_facts facts.now) (cached_in changes.old.own.entries)
         (stack.old.items ++ stale ∷ []) }
     requires frames { AreFrames (state_of_facts facts.now) changes.old.own.entries }
+    requires live { ListsLive (state_of_facts facts.now) (cached_in changes.old.own.entries)
+        live.old }
     ensures frames { OnOk result (AreFrames (state_of_facts facts.now) changes.new.own.entries) }
+    ensures live { OnOk result (ListsLive (state_of_facts facts.now)
+        (cached_in changes.new.own.entries) live.new) }
     ensures settled { OnOk result (AreSettledBut (state_of_facts facts.now)
         (cached_in changes.new.own.entries) stack.new.items) }
     ensures weight { OnOk result (weight (base_of listed.now) stack.new.items
@@ -101,12 +124,18 @@ fn settle_next(
     let next = step_at(changes, listed, facts, stale.id, stale.first);
     let end = stale.end.min(next.end);
     keep_rest(stack, stale, end)?;
-    settle_run(changes, stack, listed, facts, stale, end, next)
+    let run = Stale {
+        id: stale.id,
+        first: stale.first,
+        end,
+    };
+    settle_run(changes, live, stack, listed, facts, run, next)
 }
 
 /// Settles what is stale, until nothing is.
 pub fn settle(
     changes: &mut AllChanges,
+    live: &mut Places,
     stack: &mut Vec<Stale>,
     listed: &Places,
     facts: &Facts,
@@ -115,12 +144,12 @@ pub fn settle(
     requires settled { AreSettledBut (state_of_facts facts.now) (cached_in changes.old.own.entries)
         stack.old.items }
     requires frames { AreFrames (state_of_facts facts.now) changes.old.own.entries }
-    ensures frames { OnOk result (AreFrames (state_of_facts facts.now) changes.new.own.entries) }
-    ensures rights { OnOk result (AreRights (state_of_facts facts.now)
-        (cached_in changes.new.own.entries)) }
+    requires live { ListsLive (state_of_facts facts.now) (cached_in changes.old.own.entries)
+        live.old }
+    ensures { OnOk result (Shows changes.new live.new (state_of_facts facts.now)) }
 {
     'stale: while let Some(stale) = stack.pop() {
-        settle_next(changes, stack, listed, facts, stale)?;
+        settle_next(changes, live, stack, listed, facts, stale)?;
     }
     Ok(())
 }

@@ -13,8 +13,8 @@ ghost use Rattle.mapdb_lists.specs.declared.own_places.OwnPlace.{OwnPlace};
 ghost use Rattle.mapdb_lists.specs.declared.places.Listed.{Listed};
 ghost use Rattle.mapdb_rights.specs.AllBut.{IsAllBut};
 ghost use Rattle.mapdb_rights.specs.Following.{AreListed};
+ghost use Rattle.mapdb_rights.specs.HeldPlaces.{IsLeftOut};
 ghost use Rattle.mapdb_rights.specs.Meeting.{is_named, record_if, shares_part};
-ghost use Rattle.mapdb_rights.specs.Revoked.{MayGo};
 
 use super::listing::record_under;
 use mapdb_facts::{Facts, Record, RecordId};
@@ -129,20 +129,23 @@ fn named_sharing(
 }
 
 /// All records that are the owner's and share pages with the place, in ascending order of name, but
-/// for some of which nothing is left to revoke.
+/// for some that are not listed for the owner among these places.
 pub(crate) fn all_sharing(
     alloc: Global,
+    places: &Places,
     listed: &Places,
     facts: &Facts,
     owner: Owner,
     part: &Fpage,
 ) -> Result<Vec<Record>, AllocError>
-    requires { AreListed (state_of_facts facts.now) listed.now }
-    ensures sharing { IfOk result (λ found. IsAllBut (MayGo (state_of_facts facts.now) owner)
+    requires aligned { AllAligned places.now }
+    requires listed { AreListed (state_of_facts facts.now) listed.now }
+    ensures sharing { IfOk result (λ found.
+        IsAllBut (IsLeftOut (state_of_facts facts.now) places.now owner)
         (filter (shares_part owner part.now) (records_of_facts facts.now)) found.items) }
     ensures formed { IfOk result (λ found. All IsFormedRecord found.items) }
 {
-    let mut names = names_meeting(alloc, listed, owner, part.first_page(), part.end())?;
+    let mut names = names_meeting(alloc, places, owner, part.first_page(), part.end())?;
     put_in_order(&mut names);
     named_sharing(alloc, names.as_slice(), listed, facts, owner, part)
 }

@@ -7,7 +7,7 @@ ghost use Rattle.mapdb_lists.specs.Changes.{cached_in};
 ghost use Rattle.mapdb_lists.specs.Listing.{owner_places};
 ghost use Rattle.mapdb_lists.specs.OwnPlaces.{own_list, own_meets};
 ghost use Rattle.mapdb_lists.specs.declared.places.Owner.TheVariants as owners;
-ghost use Rattle.mapdb_rights.specs.Following.{Stands};
+ghost use Rattle.mapdb_rights.specs.Following.{Shows};
 ghost use Rattle.mapdb_rights.specs.Live.{ShowUntil};
 
 use mapdb_facts::{Facts, RecordId, Space};
@@ -50,14 +50,14 @@ fn place_until(changes: &AllChanges, place: OwnPlace, page: u64) -> u64
 fn until_among(
     own: &OwnPlaces,
     changes: &AllChanges,
-    listed: &Places,
+    live: &Places,
     facts: &Facts,
     space: Space,
     page: u64,
 ) -> u64
     requires page { page < PAGE_LIMIT }
-    requires stands { Stands changes.now listed.now (state_of_facts facts.now) }
-    requires places { owner_places listed.now (owners.Space space) ≡ own_list own.now }
+    requires stands { Shows changes.now live.now (state_of_facts facts.now) }
+    requires places { owner_places live.now (owners.Space space) ≡ own_list own.now }
     ensures above { page < result }
     ensures limit { result ≤ PAGE_LIMIT }
     ensures shown { ShowUntil (state_of_facts facts.now) space page result }
@@ -76,19 +76,19 @@ fn until_among(
 /// no memory.
 pub(crate) fn show_until(
     changes: &AllChanges,
-    listed: &Places,
+    live: &Places,
     facts: &Facts,
     space: Space,
     page: u64,
 ) -> u64
     requires page { page < PAGE_LIMIT }
-    requires stands { Stands changes.now listed.now (state_of_facts facts.now) }
+    requires stands { Shows changes.now live.now (state_of_facts facts.now) }
     ensures above { page < result }
     ensures limit { result ≤ PAGE_LIMIT }
     ensures shown { ShowUntil (state_of_facts facts.now) space page result }
 {
-    match listed.own(Owner::Space(space)) {
-        Some(own) => until_among(own, changes, listed, facts, space, page),
+    match live.own(Owner::Space(space)) {
+        Some(own) => until_among(own, changes, live, facts, space, page),
         None => root_until(changes, space, page),
     }
 }

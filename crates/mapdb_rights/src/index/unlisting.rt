@@ -1,5 +1,5 @@
-//! What is listed no longer: a record of which nothing is left to revoke. So a long life of Maps
-//! and Unmaps leaves no more to look through than what still has rights.
+//! What is listed no longer: a record of which nothing is left to revoke. So what was unmapped from
+//! those who received it is looked through no more.
 
 ghost use Rattle.std.specs.Prelude.{◌≡◌, ◌↔◌, IsTrue, true};
 ghost use Rattle.mapdb_facts.specs.Facts.{state_of_facts};

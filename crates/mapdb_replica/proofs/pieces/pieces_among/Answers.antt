@@ -5,15 +5,15 @@ use Rattle.mapdb_facts.specs.Facts.{records_of_facts, state_of_facts}
 use Rattle.mapdb_facts.specs.Records.{greatest_number}
 use Rattle.mapdb_facts.specs.declared.operations.Record.{Record}
 use Rattle.mapdb_facts.proofs.RecordLemmas.Ascending.{most_of}
+use Rattle.mapdb_rights.specs.LivePlaces.{IsPowerless}
 use Rattle.mapdb_rights.specs.Meeting.{holders_of, holds_part}
-use Rattle.mapdb_rights.specs.Revoked.{IsRevokedBelow}
 use Rattle.mapdb_replica.specs.Fitting.{AllFitting, IsFitting}
 use Rattle.mapdb_replica.specs.Issue.{first_piece}
 use Rattle.mapdb_replica.specs.declared.pieces.Piece.{Piece}
 use Rattle.mapdb_replica.proofs.Calls.AllBut.{among_at, among_filter, left_among}
 use Rattle.mapdb_replica.proofs.Maps.Gathering.{fitting-option, list-fitting, list_of, pieces-parts, pieces_of}
+use Rattle.mapdb_replica.proofs.Maps.Powerless.{pieces_left}
 use Rattle.mapdb_replica.proofs.Unmaps.MeetingRecords.{pieces_more}
-use Rattle.mapdb_replica.proofs.Unmaps.Revoked.{pieces_left}
 use Rattle.mapdb_replica.proofs.pieces.pieces_among.Goals as goal
 
 pub loop-mapping-init : goal.loop-mapping-init
@@ -36,7 +36,7 @@ loop-mapping-preserved c =
     let more : c.add_piece-in-loop-mapping.new.found.items ≡ c.loop-mapping.found.items ++ list_of c.record_piece-piece.result = c.in_ok-add_piece-2.ensures in
     let low : c.mapping-item.result.id.number ≤ greatest_number records =
     most_of records c.mapping-item.result (among_filter (holds_part c.args.sender c.args.source.now) records c.mapping-item.result
-    (left_among (IsRevokedBelow (state_of_facts c.args.facts.now)) (holders_of records c.args.sender c.args.source.now) c.args.held.now c.mapping-item.result c.requires.held
+    (left_among (IsPowerless (state_of_facts c.args.facts.now)) (holders_of records c.args.sender c.args.source.now) c.args.held.now c.mapping-item.result c.requires.held
     (among_at c.args.held.now c.loop-mapping.mapping-index c.mapping-item.result c.loop-mapping-test.true c.mapping-item.is))) in
     record {
       found = pieces_more (state_of_facts c.args.facts.now) c.args.sender c.args.source.now c.args.rights c.args.held.now c.loop-mapping.mapping-index c.mapping-item.result
@@ -57,5 +57,5 @@ returns-clause-found c =
     ∙ ap (λ (rs : List Record). first ++ pieces_of S c.args.sender c.args.source.now c.args.rights rs)
     (take_all c.loop-mapping.mapping-index c.args.held.now c.loop-mapping-test.false)
     ∙ ap (λ (xs : List Piece). first ++ xs)
-    (pieces_left c.args.facts.now c.args.index.now c.requires.there c.requires.kept c.args.sender c.args.source.now c.args.rights c.args.held.now c.requires.held)
+    (pieces_left S c.args.sender c.args.source.now c.args.rights records c.args.held.now c.requires.held)
     ∙ sym (pieces-parts S c.args.sender c.args.source.now c.args.rights records)

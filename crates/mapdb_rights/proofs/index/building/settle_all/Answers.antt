@@ -7,9 +7,11 @@ use Rattle.mapdb_facts.specs.declared.names.RecordId.{RecordId}
 use Rattle.mapdb_lists.specs.Changes.{cached_in}
 use Rattle.mapdb_rights.proofs.Rights.SourcePages.{source_below}
 use Rattle.mapdb_rights.specs.CachedFrames.{AreFrames}
+use Rattle.mapdb_rights.specs.LivePlaces.{ListsLive}
 use Rattle.mapdb_rights.specs.Pending.{AreSettledBut, IsPending}
 use Rattle.mapdb_rights.proofs.Settling.Built.{left_from_nothing}
 use Rattle.mapdb_rights.proofs.Rights.FramesFrom.{no_change_frames}
+use Rattle.mapdb_rights.proofs.Settling.LiveRecords.{none_live}
 use Rattle.mapdb_rights.proofs.Settling.Pendings.{pending_last}
 use Rattle.mapdb_rights.proofs.Settling.Settlement.{to_covers}
 use Rattle.mapdb_rights.proofs.index.building.settle_all.Goals as goal
@@ -32,5 +34,11 @@ settle-requires-clause-settled c =
 pub settle-requires-clause-frames : goal.settle-requires-clause-frames
 settle-requires-clause-frames c = subst (λ e. AreFrames (state_of_facts c.args.facts.now) e) (sym c.requires.changes) (no_change_frames (state_of_facts c.args.facts.now))
 
+pub settle-requires-clause-live : goal.settle-requires-clause-live
+settle-requires-clause-live c =
+    let S : State = state_of_facts c.args.facts.now in
+    subst (λ e. ListsLive S (cached_in e) c.args.live.now) (sym c.requires.changes)
+    (none_live S c.args.live.now c.in_ok-list_records.ensures.listed.formed c.requires.no_place)
+
 pub returns : goal.returns
-returns c = record { rights = c.in_ok-settle.ensures.rights; frames = c.in_ok-settle.ensures.frames; listed_there = c.unlist_revoked.ensures }
+returns c = record { shows = c.in_ok-settle.ensures; listed_there = c.unlist_revoked.ensures }

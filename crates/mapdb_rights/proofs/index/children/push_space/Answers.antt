@@ -9,16 +9,16 @@ use Rattle.mapdb_rights.specs.HeldPlaces.{place_of}
 use Rattle.mapdb_rights.proofs.index.children.push_space.Goals as goal
 
 pub push_places-requires-clause-aligned : goal.push_places-requires-clause-aligned
-push_places-requires-clause-aligned c = own_aligned c.args.listed.now (owners.Space c.args.space) (own_list c.in-Some.own.now) (sym c.in-Some.ensures) c.requires.aligned
+push_places-requires-clause-aligned c = own_aligned c.args.live.now (owners.Space c.args.space) (own_list c.in-Some.own.now) (sym c.in-Some.ensures) c.requires.aligned
 
 pub returns-in-Some : goal.returns-in-Some
 returns-in-Some c =
     on_ok c.push_places.result
     (λ stale r held place listed same.
     stale r held place
-    (there c.args.listed.now (owners.Space c.args.space) (own_list c.in-Some.own.now) (sym c.in-Some.ensures) (place_of r) (ap owners.Space (sym (exact_space c.args.space r.space same))) listed))
+    (there c.args.live.now (owners.Space c.args.space) (own_list c.in-Some.own.now) (sym c.in-Some.ensures) (place_of r) (ap owners.Space (sym (exact_space c.args.space r.space same))) listed))
     c.push_places.ensures
 
 pub returns-in-None : goal.returns-in-None
 returns-in-None c r held place listed same =
-    absurd (false≢true (there c.args.listed.now (owners.Space c.args.space) [] (sym c.in-None.ensures) (place_of r) (ap owners.Space (sym (exact_space c.args.space r.space same))) listed))
+    absurd (false≢true (there c.args.live.now (owners.Space c.args.space) [] (sym c.in-None.ensures) (place_of r) (ap owners.Space (sym (exact_space c.args.space r.space same))) listed))

@@ -10,12 +10,12 @@ use Rattle.mapdb_rights.proofs.Live.PassedPlaces.{none_passed, place_into}
 use Rattle.mapdb_rights.proofs.index.first_records.first_among.Goals as goal
 
 pub next_place-requires : goal.next_place-requires
-next_place-requires c = own_aligned c.args.listed.now (owners.Space c.args.space) (own_list c.args.own.now) c.requires.places c.requires.stands.listed_there.aligned
+next_place-requires c = own_aligned c.args.live.now (owners.Space c.args.space) (own_list c.args.own.now) c.requires.places c.requires.stands.live_there.listed.aligned
 
 pub with_record-found-requires : goal.with_record-found-requires
 with_record-found-requires c = record {
   stands = c.requires.stands;
-  into = place_into (state_of_facts c.args.facts.now) c.args.listed.now c.requires.stands.listed_there c.args.space (own_list c.args.own.now) c.requires.places c.in-Some.next.place c.in-Some.ensures.held;
+  into = place_into (state_of_facts c.args.facts.now) c.args.live.now c.requires.stands.live_there c.args.space (own_list c.args.own.now) c.requires.places c.in-Some.next.place c.in-Some.ensures.held;
 }
 
 pub places-init : goal.places-init
@@ -32,11 +32,11 @@ places-preserved c =
     let own = c.args.own.now in
     let end = c.saturating_add-end.result in
     subst (λ (f : First). FirstPassed S changes c.args.space c.args.page own end c.in-Some.next.sweep f) (sym c.with_record-found.ensures)
-    (first_on S changes c.args.space c.args.page c.args.listed.now c.requires.stands.listed_there own end c.places.sweep c.in-Some.next c.places.found c.in-Some.ensures c.places.invariant)
+    (first_on S changes c.args.space c.args.page c.args.live.now c.requires.stands.live_there own end c.places.sweep c.in-Some.next c.places.found c.in-Some.ensures c.places.invariant)
 
 pub returns : goal.returns
 returns c =
     let end = c.saturating_add-end.result in
     let more = λ (inside : c.args.page < page_limit). let h : c.args.page < end = omega (arith, c.saturating_add-end.ensures) in h in
-    first_all (state_of_facts c.args.facts.now) c.args.changes.now.own.entries c.args.space c.args.page c.args.listed.now c.requires.stands.listed_there c.args.own.now end
+    first_all (state_of_facts c.args.facts.now) c.args.changes.now.own.entries c.args.space c.args.page c.args.live.now c.requires.stands.live_there c.args.own.now end
     c.places.sweep c.places.found c.requires.places more c.in_default.ensures c.places.invariant

@@ -8,5 +8,5 @@ first_among-requires c = record { stands = c.requires; places = sym c.in-Some.en
 
 pub returns-in-None : goal.returns-in-None
 returns-in-None c =
-    first_alone (state_of_facts c.args.facts.now) c.args.changes.now.own.entries c.args.space c.args.page c.args.listed.now c.requires.listed_there c.root_first.result
+    first_alone (state_of_facts c.args.facts.now) c.args.changes.now.own.entries c.args.space c.args.page c.args.live.now c.requires.live_there c.root_first.result
     (sym c.in-None.ensures) c.root_first.ensures.found c.root_first.ensures.there

@@ -4,9 +4,11 @@ use Rattle.std.proofs.lemmas.Bool.{and_from}
 use Rattle.mapdb_fpage.specs.Place.{holds}
 use Rattle.mapdb_facts.specs.Facts.{state_of_facts}
 use Rattle.mapdb_facts.specs.Names.{same_id}
+use Rattle.mapdb_facts.specs.State.{said}
 use Rattle.mapdb_facts.specs.declared.operations.Op.TheVariants.{Cut}
 use Rattle.mapdb_lists.specs.Changes.{cached_in}
 use Rattle.mapdb_rights.proofs.Settling.Followed.{frames_by_op, left_by_op, listed_by_cut}
+use Rattle.mapdb_rights.proofs.Settling.LiveRecords.{live_later}
 use Rattle.mapdb_rights.proofs.Settling.Pendings.{pending_last}
 use Rattle.mapdb_rights.proofs.index.following.follow_cut.Goals as goal
 
@@ -17,17 +19,24 @@ settle-requires-clause-listed c =
 pub settle-requires-clause-settled : goal.settle-requires-clause-settled
 settle-requires-clause-settled c =
     left_by_op (state_of_facts c.args.facts.now) c.requires.stood.before (Cut c.args.cut.now) (cached_in c.args.changes.now.own.entries) c.push.new.self.items
-    c.requires.stood.is c.requires.stood.stood.rights
+    c.requires.stood.is c.requires.stood.stood.shows.rights
     (λ id page unsettles. rw c.in_ok-push.ensures.items (pending_last _ _ id page
     ((λ i. same_id c.args.cut.now.target id && (nat_le (c.first_page.ensures.page i) page && nat_lt page (c.end.ensures.end i)))
     ∙ and_from (same_id c.args.cut.now.target id) (holds c.args.cut.now.part page) unsettles.0 unsettles.1)))
 
 pub settle-requires-clause-frames : goal.settle-requires-clause-frames
-settle-requires-clause-frames c = frames_by_op (state_of_facts c.args.facts.now) c.requires.stood.before (Cut c.args.cut.now) c.args.changes.now.own.entries c.requires.stood.is c.requires.stood.stood.frames
+settle-requires-clause-frames c = frames_by_op (state_of_facts c.args.facts.now) c.requires.stood.before (Cut c.args.cut.now) c.args.changes.now.own.entries c.requires.stood.is c.requires.stood.stood.shows.frames
+
+pub settle-requires-clause-live : goal.settle-requires-clause-live
+settle-requires-clause-live c =
+    let S = state_of_facts c.args.facts.now in
+    let stood = c.requires.stood in
+    live_later S stood.before (said (Cut c.args.cut.now)) (cached_in c.args.changes.now.own.entries) c.args.live.now stood.is
+    (listed_by_cut S stood.before c.args.cut.now c.args.listed.now stood.is stood.stood.listed_there).formed stood.stood.shows.rights stood.stood.shows.live_there
 
 pub unlist-requires : goal.unlist-requires
 unlist-requires c =
     listed_by_cut (state_of_facts c.args.facts.now) c.requires.stood.before c.args.cut.now c.args.listed.now c.requires.stood.is c.requires.stood.stood.listed_there
 
 pub returns : goal.returns
-returns c = record { rights = c.in_ok-settle.ensures.rights; frames = c.in_ok-settle.ensures.frames; listed_there = c.unlist.ensures }
+returns c = record { shows = c.in_ok-settle.ensures; listed_there = c.unlist.ensures }

@@ -8,5 +8,5 @@ rights_among-requires c = record { stands = c.requires; places = sym c.in-Some.e
 
 pub returns-in-None : goal.returns-in-None
 returns-in-None c =
-    rights_alone (state_of_facts c.args.facts.now) c.args.changes.now.own.entries c.args.space c.args.page c.args.shift c.requires.rights c.args.listed.now c.requires.listed_there
+    rights_alone (state_of_facts c.args.facts.now) c.args.changes.now.own.entries c.args.space c.args.page c.args.shift c.requires.rights c.args.live.now c.requires.live_there
     c.root_rights.result (sym c.in-None.ensures) c.root_rights.ensures.found c.root_rights.ensures.there

@@ -10,7 +10,7 @@ use Rattle.mapdb_rights.proofs.Live.PassedPlaces.{none_passed}
 use Rattle.mapdb_rights.proofs.index.frame_rights.rights_among.Goals as goal
 
 pub next_place-requires : goal.next_place-requires
-next_place-requires c = own_aligned c.args.listed.now (owners.Space c.args.space) (own_list c.args.own.now) c.requires.places c.requires.stands.listed_there.aligned
+next_place-requires c = own_aligned c.args.live.now (owners.Space c.args.space) (own_list c.args.own.now) c.requires.places c.requires.stands.live_there.listed.aligned
 
 pub places-init : goal.places-init
 places-init c = record {
@@ -26,12 +26,12 @@ places-preserved c =
     let own = c.args.own.now in
     let end = c.saturating_add-end.result in
     subst (λ (r : Rights). RightsPassed S changes c.args.space c.args.page c.args.shift own end c.in-Some.next.sweep r) (sym c.with_record-known.ensures)
-    (rights_on S changes c.args.space c.args.page c.args.shift c.requires.stands.rights c.args.listed.now c.requires.stands.listed_there own end c.requires.places
+    (rights_on S changes c.args.space c.args.page c.args.shift c.requires.stands.rights c.args.live.now c.requires.stands.live_there own end c.requires.places
     c.places.sweep c.in-Some.next c.places.known c.in-Some.ensures c.places.invariant)
 
 pub returns : goal.returns
 returns c =
     let end = c.saturating_add-end.result in
     let more = λ (inside : c.args.page < page_limit). let h : c.args.page < end = omega (arith, c.saturating_add-end.ensures) in h in
-    rights_all (state_of_facts c.args.facts.now) c.args.changes.now.own.entries c.args.space c.args.page c.args.shift c.requires.stands.rights c.args.listed.now c.requires.stands.listed_there
+    rights_all (state_of_facts c.args.facts.now) c.args.changes.now.own.entries c.args.space c.args.page c.args.shift c.requires.stands.rights c.args.live.now c.requires.stands.live_there
     c.args.own.now end c.requires.places c.places.sweep c.places.known more c.in_default.ensures c.places.invariant

@@ -13,13 +13,13 @@ names-init c =
 
 pub names-preserved : goal.names-preserved
 names-preserved c =
-    next_found c.args.facts.now c.args.space c.args.page c.requires.listed_there.named c.requires.listed_there.formed c.names.after c.in-Some.id
+    next_found c.args.facts.now c.args.space c.args.page c.requires.live_there.named c.requires.live_there.formed c.names.after c.in-Some.id
     c.names.found.items c.push.new.self.items c.in-Some.ensures c.in_ok-push.ensures.items c.names.invariant
 
 pub names-smaller : goal.names-smaller
-names-smaller c = fewer_left c.args.facts.now c.args.space c.args.page c.requires.listed_there.named c.requires.listed_there.formed c.names.after c.in-Some.id c.in-Some.ensures
+names-smaller c = fewer_left c.args.facts.now c.args.space c.args.page c.requires.live_there.named c.requires.live_there.formed c.names.after c.in-Some.id c.in-Some.ensures
 
 pub returns : goal.returns
 returns c =
-    all_found c.args.facts.now c.args.space c.args.page c.requires.listed_there.named c.requires.listed_there.formed c.names.after c.names.found.items
+    all_found c.args.facts.now c.args.space c.args.page c.requires.live_there.named c.requires.live_there.formed c.names.after c.names.found.items
     c.in_default.ensures c.names.invariant

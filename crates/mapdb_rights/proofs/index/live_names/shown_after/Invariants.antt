@@ -6,7 +6,7 @@ use Rattle.mapdb_rights.proofs.index.live_names.shown_after.Given as goal
 
 -- none of those that are left out has a right at the page
 abbrev pub invariant-names : goal.invariant-names
-invariant-names l = Further l.listed (state_of_facts l.facts) l.space l.page l.place l.fn.after l.from
+invariant-names l = Further l.live (state_of_facts l.facts) l.space l.page l.place l.fn.after l.from
 
 abbrev pub decreases-names : goal.decreases-names
-decreases-names l = left_above l.listed (entry_of l.place l.from)
+decreases-names l = left_above l.live (entry_of l.place l.from)

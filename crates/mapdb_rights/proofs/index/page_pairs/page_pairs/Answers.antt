@@ -17,5 +17,5 @@ returns-in-None c =
     let page = c.args.page in
     if_both c.root_pairs.result (λ pairs. AreShown S space page pairs.items) (λ pairs. IsLive S space page root → HasPairAmong S page pairs.items root)
     (λ pairs. ArePagePairs S space page pairs.items)
-    (λ pairs shown top. pairs_alone S space page c.args.listed.now c.requires.listed_there pairs.items (sym c.in-None.ensures) shown top)
+    (λ pairs shown top. pairs_alone S space page c.args.live.now c.requires.live_there pairs.items (sym c.in-None.ensures) shown top)
     c.root_pairs.ensures.shown c.root_pairs.ensures.top

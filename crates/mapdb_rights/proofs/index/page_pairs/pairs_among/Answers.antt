@@ -11,7 +11,7 @@ use Rattle.mapdb_rights.proofs.Live.PassedPlaces.{none_passed}
 use Rattle.mapdb_rights.proofs.index.page_pairs.pairs_among.Goals as goal
 
 pub next_place-requires : goal.next_place-requires
-next_place-requires c = own_aligned c.args.listed.now (owners.Space c.args.space) (own_list c.args.own.now) c.requires.places c.requires.stands.listed_there.aligned
+next_place-requires c = own_aligned c.args.live.now (owners.Space c.args.space) (own_list c.args.own.now) c.requires.places c.requires.stands.live_there.listed.aligned
 
 pub places-init : goal.places-init
 places-init c = record {
@@ -27,12 +27,12 @@ places-preserved c =
     let end = c.saturating_add-end.result in
     let is : c.add_shown.new.pairs.items ≡ with_shown _ c.places.pairs.items = c.in_ok-add_shown.ensures ∙ ap (λ (o : Option Pair). with_shown o c.places.pairs.items) c.pair_of.ensures in
     subst (λ (ps : List Pair). PairsPassed S c.args.space c.args.page own end c.in-Some.next.sweep ps) (sym is)
-    (pairs_on S c.args.space c.args.page c.args.listed.now c.requires.stands.listed_there own end c.requires.places
+    (pairs_on S c.args.space c.args.page c.args.live.now c.requires.stands.live_there own end c.requires.places
     c.places.sweep c.in-Some.next c.places.pairs.items c.in-Some.ensures c.places.invariant)
 
 pub returns : goal.returns
 returns c =
     let end = c.saturating_add-end.result in
     let more = λ (inside : c.args.page < page_limit). let h : c.args.page < end = omega (arith, c.saturating_add-end.ensures) in h in
-    pairs_all (state_of_facts c.args.facts.now) c.args.space c.args.page c.args.listed.now c.requires.stands.listed_there c.args.own.now end c.requires.places
+    pairs_all (state_of_facts c.args.facts.now) c.args.space c.args.page c.args.live.now c.requires.stands.live_there c.args.own.now end c.requires.places
     c.places.sweep c.places.pairs.items more c.in_default.ensures c.places.invariant

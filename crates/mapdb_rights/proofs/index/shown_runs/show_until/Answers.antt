@@ -9,5 +9,5 @@ until_among-requires-clause-places c = sym c.in-Some.ensures
 
 pub returns-in-None-clause-shown : goal.returns-in-None-clause-shown
 returns-in-None-clause-shown c =
-    none_there c.args.listed.now c.args.space (cached_in c.args.changes.now.own.entries) c.args.page (state_of_facts c.args.facts.now) c.requires.stands.listed_there.named
-    c.requires.stands.listed_there c.requires.stands.rights c.root_until.result (sym c.in-None.ensures) c.root_until.ensures.same
+    none_there c.args.live.now c.args.space (cached_in c.args.changes.now.own.entries) c.args.page (state_of_facts c.args.facts.now) c.requires.stands.live_there.named
+    c.requires.stands.live_there c.requires.stands.rights c.root_until.result (sym c.in-None.ensures) c.root_until.ensures.same

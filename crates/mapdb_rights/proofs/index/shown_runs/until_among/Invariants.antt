@@ -11,8 +11,8 @@ abbrev pub invariant-places : goal.invariant-places
 invariant-places l = record {
   above : l.page < l.end;
   limit : l.end ≤ page_limit;
-  first : is_first_space l.fn.space ≡ true → Stays l.listed l.fn.space (cached_in l.changes.own.entries) l.page root l.end;
-  kept : Passed l.listed l.fn.space (cached_in l.changes.own.entries) l.page l.own l.sweep l.end;
+  first : is_first_space l.fn.space ≡ true → Stays l.live l.fn.space (cached_in l.changes.own.entries) l.page root l.end;
+  kept : Passed l.live l.fn.space (cached_in l.changes.own.entries) l.page l.own l.sweep l.end;
 }
 
 abbrev pub decreases-places : goal.decreases-places

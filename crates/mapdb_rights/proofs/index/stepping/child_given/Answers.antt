@@ -1,7 +1,7 @@
-use Rattle.std.proofs.Common.{◌≡◌, ◌≤◌, ◌<◌, ap, ◌∙◌, arith}
+use Rattle.std.proofs.Common.{◌≡◌, ◌≤◌, ◌<◌, ap, sym, ◌∙◌, arith}
 use Rattle.mapdb_facts.specs.Facts.{state_of_facts}
 use Rattle.mapdb_fpage.specs.Bounds.{page_limit}
-use Rattle.mapdb_fpage.specs.RightSets.{without}
+use Rattle.mapdb_fpage.specs.RightSets.{is_empty, without}
 use Rattle.mapdb_fpage.proofs.Meets.{holds_range}
 use Rattle.mapdb_facts.specs.State.{State}
 use Rattle.mapdb_lists.specs.Changes.{PageChanges}
@@ -31,6 +31,6 @@ returns c =
           (λ q from before. taken.ensures.same q from (omega arith))
           (λ q from before. stretch_seen changes r.parent c.source_of-source.result up.result up.ensures (source_page r q) (omega (arith, at, range)) (omega (arith, at, range)))
           range.0
-          (c.without.ensures ∙ ap (λ rights. without rights taken.result.0) c.meet.ensures)
-          (λ small. omega (arith, at, small));
+          (c.change_of-change.ensures.rights ∙ c.without-rights.ensures ∙ ap (λ rights. without rights taken.result.0) c.meet.ensures)
+          (λ some small. let is = c.change_of-change.ensures.shift (ap is_empty (sym c.change_of-change.ensures.rights) ∙ some) in omega (arith, is, at, small));
     }

@@ -14,8 +14,20 @@ pub returns : goal.returns
 returns c = record {
   there = refl;
   stands = record {
-    rights = λ id page. ap (λ e. cached_in e id page) c.new.ensures ∙ empty_stands id page;
-    frames = subst (λ e. AreFrames nothing e) (sym c.new.ensures) (no_change_frames nothing);
+    shows = record {
+      rights = λ id page. ap (λ e. cached_in e id page) c.new.ensures ∙ empty_stands id page;
+      frames = subst (λ e. AreFrames nothing e) (sym c.new.ensures) (no_change_frames nothing);
+      live_there = record {
+        named = λ id r held. absurd (none_some r held);
+        formed = λ r held. absurd (none_some r held);
+        placed = λ r held. absurd (none_some r held);
+        listed = record {
+          places = λ r held has. absurd (none_some r held);
+          aligned = none_aligned c.new-3.result c.new-3.ensures.no_place;
+          only = λ e has. absurd (true≢false (sym has ∙ c.new-3.ensures.no_place e));
+        };
+      };
+    };
     listed_there = record {
       named = λ id r held. absurd (none_some r held);
       formed = λ r held. absurd (none_some r held);

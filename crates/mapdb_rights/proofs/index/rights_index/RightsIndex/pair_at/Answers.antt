@@ -10,7 +10,7 @@ pub returns-clause-pair : goal.returns-clause-pair
 returns-clause-pair c S stands =
     let seen : c.seen_at-change.result ≡ seen_in c.args.self.now.changes.own.entries c.args.id c.args.page = c.seen_at-change.ensures in
     let some : is_empty c.seen_at-change.result.rights ≡ false = sym c.is_none.ensures ∙ c.if-is_none.false in
-    let has = stands.stands.frames c.args.id c.args.page ((λ i. is_empty (sym seen i).rights) ∙ some) in
+    let has = stands.stands.shows.frames c.args.id c.args.page ((λ i. is_empty (sym seen i).rights) ∙ some) in
     ap Some (pair_is (frame_at S c.args.id c.args.page) (rights_at S c.args.id c.args.page) c.seen_at-change.result.rights c.frame.result has.frame has.reached
     (c.frame.ensures has.frame has.below (has.far ∙ (λ i. c.args.page + (sym seen i).shift)))
-    ((λ i. (seen i).rights) ∙ stands.stands.rights c.args.id c.args.page) some)
+    ((λ i. (seen i).rights) ∙ stands.stands.shows.rights c.args.id c.args.page) some)

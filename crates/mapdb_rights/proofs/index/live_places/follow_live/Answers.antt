@@ -1,0 +1,31 @@
+use Rattle.std.proofs.Common.{◌≡◌, false, sym, ◌∙◌, arith, inl, inr}
+use Rattle.std.proofs.lemmas.Grind.{common_steps}
+use Rattle.std.proofs.lemmas.Bool.{cases_Bool}
+use Rattle.mapdb_facts.specs.Facts.{state_of_facts}
+use Rattle.mapdb_lists.specs.Changes.{cached_in}
+use Rattle.mapdb_rights.proofs.Settling.LiveRecords.{lists_less, lists_more, lists_still, none_has}
+use Rattle.mapdb_rights.proofs.index.live_places.follow_live.Goals as goal
+
+pub returns-then-has-had_some : goal.returns-then-has-had_some
+returns-then-has-had_some c =
+    let cached = cached_in c.args.changes.now.own.entries in
+    let same : c.has_some-has.result ≡ c.args.had_some = grind (arith, common_steps) in
+    lists_still (state_of_facts c.args.facts.now) cached c.args.live.now c.args.run.id c.args.had_some c.requires.before
+    (λ has. elim (cases_Bool c.has_some-has.result) [
+      | inl some ↦ sym same ∙ some
+      | inr none ↦ absurd (none_has (cached c.args.run.id) (c.has_some-has.ensures.none none) has)
+    ])
+    (λ had. c.has_some-has.ensures.some (same ∙ had))
+
+pub returns-then-has : goal.returns-then-has
+returns-then-has c =
+    let done = c.list_live.ensures in
+    let none : c.args.had_some ≡ false = grind (arith, common_steps) in
+    lists_more (state_of_facts c.args.facts.now) (cached_in c.args.changes.now.own.entries) c.args.live.now c.args.run.id c.args.had_some c.requires.before
+    c.list_live.result c.list_live.new.live none (c.has_some-has.ensures.some c.if-has.true)
+    done.aligned done.there done.kept done.no_more c.requires.listed.named
+
+pub returns : goal.returns
+returns c =
+    lists_less (state_of_facts c.args.facts.now) (cached_in c.args.changes.now.own.entries) c.args.live.now c.args.run.id c.args.had_some c.requires.before
+    c.unlist_live.new.live (c.has_some-has.ensures.none c.if-has.false) c.unlist_live.ensures.less c.unlist_live.ensures.gone c.unlist_live.ensures.others
