@@ -3,9 +3,20 @@ use Rattle.std.specs.Prelude.{◌≡◌, ◌⊎◌, ◌↔◌, ℕ, List, [], Bo
 use Rattle.std.specs.Prelude.{Err, codes}
 use Rattle.std.specs.Io.KnownBytes.{Appends}
 use Rattle.mapdb_lines.specs.Fronts.{BeginsWith}
+use Rattle.l4map.specs.declared.endings.Ending.{Ending}
+use Rattle.l4map.specs.declared.endings.Ending.TheVariants.{Done, Faulty, Refused, StreamFailed}
+use Rattle.l4map.specs.declared.endings.Ending.TheVariants.{OutOfMemory}
 use Rattle.mapdb_script.specs.declared.faults.Summary.{Summary}
 use Rattle.mapdb_script.specs.declared.faults.ScriptFault.{ScriptFault}
 use Rattle.mapdb_script.specs.declared.faults.ScriptFault.TheVariants as fault
+
+-- the status of the process, by how the program ended
+abbrev pub ending_status : Ending → ℕ
+ending_status Done = 0
+ending_status Faulty = 1
+ending_status Refused = 2
+ending_status StreamFailed = 3
+ending_status OutOfMemory = 4
 
 -- the status of a run
 abbrev pub status_of : Result Summary ScriptFault → ℕ

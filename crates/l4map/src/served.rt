@@ -17,6 +17,7 @@ ghost use Rattle.l4map.specs.Statuses.{BlamesFailed, IsTold, Refuses, TellsOutOf
 ghost use Rattle.l4map.specs.Statuses.{status_of, words_message};
 
 use crate::commands::{Job, job_of};
+use crate::endings::Ending;
 use crate::messages::{
     OUT_OF_MEMORY, WORDS_ARE_NO_TEXT, message, snapshot_message, tell, threads_message,
 };
@@ -38,10 +39,10 @@ fn status(outcome: &Result<Summary, ScriptFault>) -> u8
     ensures { result ≡ status_of outcome.now }
 {
     match outcome {
-        Ok(_) => 0,
-        Err(ScriptFault::Line { .. }) => 1,
-        Err(ScriptFault::Read | ScriptFault::Write) => 3,
-        Err(ScriptFault::Memory) => 4,
+        Ok(_) => Ending::Done.status(),
+        Err(ScriptFault::Line { .. }) => Ending::Faulty.status(),
+        Err(ScriptFault::Read | ScriptFault::Write) => Ending::StreamFailed.status(),
+        Err(ScriptFault::Memory) => Ending::OutOfMemory.status(),
     }
 }
 
@@ -51,7 +52,7 @@ fn tell_out_of_memory_to<E: Sink>(errors: &mut E) -> u8
         (E.has_failed errors.new) }
 {
     tell(errors, OUT_OF_MEMORY);
-    4
+    Ending::OutOfMemory.status()
 }
 
 /// Tells why clap refuses the words, or the help that they call for, and answers the status.
@@ -68,7 +69,7 @@ fn refuse<E: Sink>(alloc: Global, error: &Error, errors: &mut E) -> u8
     match format!(in alloc; "{error}") {
         Ok(text) => {
             tell(errors, text.as_bytes());
-            2
+            Ending::Refused.status()
         }
         Err(_) => tell_out_of_memory_to(errors),
     }
@@ -90,7 +91,7 @@ pub fn refuse_unread<E: Sink>(kind: io::ErrorKind, errors: &mut E) -> u8
         return tell_out_of_memory_to(errors);
     }
     tell(errors, WORDS_ARE_NO_TEXT);
-    2
+    Ending::Refused.status()
 }
 
 /// The status of a script in threads.
@@ -98,11 +99,14 @@ fn threads_status(outcome: &Result<(), ThreadsFault>) -> u8
     ensures { result ≡ threads_status outcome.now }
 {
     match outcome {
-        Ok(()) => 0,
-        Err(ThreadsFault::Script(ScriptFault::Line { .. })) => 1,
-        Err(ThreadsFault::Script(ScriptFault::Read | ScriptFault::Write)) => 3,
-        Err(ThreadsFault::Script(ScriptFault::Memory) | ThreadsFault::Run(RunFault::Memory)) => 4,
-        Err(ThreadsFault::Run(_)) => 1,
+        Ok(()) => Ending::Done.status(),
+        Err(ThreadsFault::Script(ScriptFault::Line { .. })) => Ending::Faulty.status(),
+        Err(ThreadsFault::Script(ScriptFault::Read | ScriptFault::Write)) => {
+            Ending::StreamFailed.status()
+        }
+        Err(ThreadsFault::Script(ScriptFault::Memory)) => Ending::OutOfMemory.status(),
+        Err(ThreadsFault::Run(RunFault::Memory)) => Ending::OutOfMemory.status(),
+        Err(ThreadsFault::Run(_)) => Ending::Faulty.status(),
     }
 }
 
@@ -160,10 +164,10 @@ fn snapshot_status(outcome: &Result<(), TellFault>) -> u8
     ensures { result ≡ snapshot_status outcome.now }
 {
     match outcome {
-        Ok(()) => 0,
-        Err(TellFault::Read | TellFault::Write) => 3,
-        Err(TellFault::Load(LoadFault::Memory)) => 4,
-        Err(TellFault::TooLong | TellFault::Load(_)) => 1,
+        Ok(()) => Ending::Done.status(),
+        Err(TellFault::Read | TellFault::Write) => Ending::StreamFailed.status(),
+        Err(TellFault::Load(LoadFault::Memory)) => Ending::OutOfMemory.status(),
+        Err(TellFault::TooLong | TellFault::Load(_)) => Ending::Faulty.status(),
     }
 }
 
