@@ -1,5 +1,5 @@
 -- What was read and written of a snapshot, and what that tells.
-use Rattle.std.proofs.Common.{◌≡◌, ◌<◌, ◌≤◌, ◌+◌, ℕ, Bool, true, arith, length, length-append, drop, List, [], ◌++◌, inl, inr, refl, sym, ap, subst, ◌∙◌, take}
+use Rattle.std.proofs.Common.{◌≡◌, ◌<◌, ◌≤◌, ◌+◌, ℕ, Bool, true, arith, length, length-append, List, [], ◌++◌, inl, inr, refl, sym, ap, subst, ◌∙◌, take}
 use Rattle.std.specs.Prelude.{◌⊎◌, Option, Some, None, Result, Ok, Err, IfOk, IfErr, ◌||◌, ◌&&◌, ◌==◌, nat_lt}
 use Rattle.std.specs.Result.{IsErr, IsErrAnd}
 use Rattle.std.specs.Io.KnownBytes.{Consumes, Keeps}
@@ -8,7 +8,6 @@ use Rattle.std.proofs.Math.Seq.{take-append_seam}
 use Rattle.std.proofs.lemmas.Bool.{false≢true}
 use Rattle.std.proofs.lemmas.Bool.Decides.{nat_tests}
 use Rattle.mapdb_lines.specs.Limits.{line_limit, read_ahead}
-use Rattle.mapdb_lines.proofs.LineLemmas.{Consumes-append}
 use Rattle.mapdb_picture.specs.declared.faults.LoadFault.{LoadFault}
 use Rattle.mapdb_picture.specs.declared.faults.LoadFault.TheVariants.{Memory}
 use Rattle.l4map.specs.Snapshots.{IsAll, IsFront, IsUnread, TellsSnapshot, answer_told, tell_out_of_memory}

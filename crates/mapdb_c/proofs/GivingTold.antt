@@ -5,7 +5,6 @@ use Rattle.std.proofs.lemmas.Bool.{false≢true}
 use Rattle.mapdb_facts.specs.declared.operations.Op.{Op}
 use Rattle.mapdb_replica.specs.Giving.{IsNotGiven}
 use Rattle.mapdb_replica.specs.declared.faults.GiveFault.{GiveFault}
-use Rattle.mapdb_replica.specs.declared.faults.GiveFault.TheVariants.{Memory}
 use Rattle.mapdb_c.specs.Filling.{Fills, FitsArray}
 use Rattle.mapdb_c.specs.Giving.{GivesAs, give_status}
 use Rattle.mapdb_c.specs.RawOperations.{written_operation}

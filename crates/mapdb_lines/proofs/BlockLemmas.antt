@@ -1,5 +1,5 @@
 -- A text passes through what waits, step by step.
-use Rattle.std.proofs.Common.{◌≡◌, ℕ, ◌+◌, ◌-◌, ◌≤◌, ◌<◌, List, [], ◌++◌, refl, sym, ap, ◌∙◌, arith, append_assoc, take, drop, length, length-append, length-drop}
+use Rattle.std.proofs.Common.{◌≡◌, ℕ, ◌+◌, ◌-◌, ◌≤◌, ◌<◌, List, [], ◌++◌, sym, ap, ◌∙◌, arith, append_assoc, take, drop, length, length-append, length-drop}
 use Rattle.std.proofs.lemmas.List.{take-append-drop, take_all, append-nil, drop-append-le, drop-take}
 use Rattle.std.proofs.Math.ListN.{drop_of_length-le, length-take}
 use Rattle.std.proofs.Math.Seq.{take-append-add, take-append_seam}

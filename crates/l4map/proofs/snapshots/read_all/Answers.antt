@@ -1,6 +1,6 @@
-use Rattle.std.proofs.Common.{◌≡◌, ◌∙◌, ◌++◌, ◌<◌, ℕ, List, [], false, length, refl, sym, ap, subst, take, drop, arith, inr}
-use Rattle.std.specs.Prelude.{Option, Bool, IfOk, IfErr, ◌||◌}
-use Rattle.std.specs.Io.KnownBytes.{Consumes, Keeps}
+use Rattle.std.proofs.Common.{◌≡◌, ◌∙◌, ◌++◌, ◌<◌, ℕ, List, false, length, refl, sym, ap, subst, take, drop, arith, inr}
+use Rattle.std.specs.Prelude.{Bool, ◌||◌}
+use Rattle.std.specs.Io.KnownBytes.{Consumes}
 use Rattle.mapdb_lines.proofs.LineLemmas.{Consumes-append}
 use Rattle.l4map.proofs.SnapshotLemmas.{consumes_kept, consumes_nothing, consumes_zero, ended_now, grows_little, piece_read, told_memory, told_read}
 use Rattle.l4map.proofs.snapshots.read_all.Goals as goal

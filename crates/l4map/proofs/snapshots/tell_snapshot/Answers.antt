@@ -1,5 +1,5 @@
-use Rattle.std.proofs.Common.{◌≡◌, ◌⊎◌, ◌∙◌, List, ℕ, [], Ok, Err, ap, subst, sym, inl, inr}
-use Rattle.std.specs.Prelude.{Option, Result}
+use Rattle.std.proofs.Common.{◌≡◌, ◌⊎◌, ◌∙◌, List, ℕ, [], Ok, Err, ap, subst, sym}
+use Rattle.std.specs.Prelude.{Option}
 use Rattle.std.specs.Io.KnownBytes.{Consumes}
 use Rattle.mapdb_picture.specs.declared.faults.LoadFault.TheVariants.{Memory}
 use Rattle.mapdb_lines.proofs.BlockLemmas.{appends-none}

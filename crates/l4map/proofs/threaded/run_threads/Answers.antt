@@ -49,3 +49,6 @@ returns-in-Err-run-clause-told g c =
     let why = c.in-Err-run.why in
     let exactly = subst (λ (n : ℕ). why ≡ BadCount ↔ (IsCount n c.args.capacity → ⊥)) (sym (length-map _ _)) c.in-Err-run.ensures.bad in
     (read.0, [], read.1, appends-none _, (read.2.1, (_, read.2.0, exactly), refl))
+
+pub returns-in-Err-Line-clause-told : goal.returns-in-Err-Line-clause-told
+returns-in-Err-Line-clause-told c = search rules

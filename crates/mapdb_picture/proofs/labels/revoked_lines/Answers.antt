@@ -1,4 +1,4 @@
-use Rattle.std.proofs.Common.{rules, ◌≡◌, ◌+◌, ◌++◌, ap, arith, length, refl}
+use Rattle.std.proofs.Common.{rules, ◌≡◌, ◌+◌, ◌++◌, ap, arith, length}
 use Rattle.std.specs.Prelude.{Some, string_bytes}
 use Rattle.mapdb_facts.specs.Adding.{cut_at}
 use Rattle.mapdb_facts.specs.Facts.{state_of_facts}
