@@ -13,16 +13,17 @@ use Rattle.mapdb_lists.specs.Listing.{AllAligned, held_record}
 use Rattle.mapdb_lists.specs.declared.places.Places.{Places}
 use Rattle.mapdb_rights.specs.Caching.{AreRights}
 use Rattle.mapdb_rights.specs.CachedFrames.{AreFrames}
-use Rattle.mapdb_rights.specs.HeldPlaces.{AreOfHeld, HasPlaces}
+use Rattle.mapdb_rights.specs.HeldPlaces.{AreOfHeld, HasSources}
+use Rattle.mapdb_rights.specs.IdlePlaces.{HasIdle}
 use Rattle.mapdb_rights.specs.LivePlaces.{AreLive}
 
--- each record that is held is listed, as far as it is not revoked, and no other, and what is listed
--- is aligned; each record that is held stands under its own name and is well-formed; under each
--- name the same is kept beside the places
+-- the source of each record that is held is listed, as far as it is not revoked, and of no other
+-- record a source or a place, and what is listed is aligned; each record that is held stands under
+-- its own name and is well-formed; under each name the same is kept beside the places
 pub record AreListed (S : State) (listed : Places) : Type 0 where
   pub named : IsNamed S
   pub formed : (r : Record) → Holds S r → IsFormedRecord r
-  pub places : HasPlaces S listed
+  pub sources : HasSources S listed
   pub aligned : AllAligned listed
   pub held : AreOfHeld S listed
   pub by_name : (id : RecordId) → held_record listed id ≡ S.record_at id
@@ -41,10 +42,11 @@ pub record Shows (changes : AllChanges) (live : Places) (S : State) : Type 0 whe
   pub live_there : AreLive S live
 
 -- What is kept stands for the state: what questions go over, and the records that are held are
--- listed.
+-- listed, each with its source, and with its place where it has no right.
 pub record Stands (changes : AllChanges) (listed live : Places) (S : State) : Type 0 where
   pub shows : Shows changes live S
   pub listed_there : AreListed S listed
+  pub idle_there : HasIdle S (cached_in changes.own.entries) listed
 
 -- what is kept stood for a state that the operation made this one
 pub record Stood (changes : AllChanges) (listed live : Places) (op : Op) (S : State)

@@ -1,6 +1,6 @@
--- Which records have their places listed: those that are held, but for what is revoked, and no
--- others.
-use Rattle.std.specs.Prelude.{◌≡◌, ◌⊎◌, Some, false, true}
+-- Which records have their sources listed: those that are held, but for what is revoked; and no
+-- other record has a source or a place listed.
+use Rattle.std.specs.Prelude.{◌≡◌, ◌⊎◌, Some, true}
 use Rattle.mapdb_fpage.specs.Place.{IsPlace}
 use Rattle.mapdb_facts.specs.Looking.{Holds}
 use Rattle.mapdb_facts.specs.State.{State}
@@ -11,7 +11,7 @@ use Rattle.mapdb_lists.specs.declared.places.Listed.{Listed}
 use Rattle.mapdb_lists.specs.declared.places.Owner.{Owner}
 use Rattle.mapdb_lists.specs.declared.places.Owner.TheVariants as owners
 use Rattle.mapdb_lists.specs.declared.places.Places.{Places}
-use Rattle.mapdb_rights.specs.Revoked.{IsRevoked, IsRevokedBelow}
+use Rattle.mapdb_rights.specs.Revoked.{IsRevoked}
 
 -- a record's place stands under its space
 abbrev pub place_of : Record → Listed
@@ -31,31 +31,29 @@ source_of r = record {
   id = r.id;
 }
 
--- both stand there, and the place is one
-pub record HasBoth (set : Places) (r : Record) : Type 0 where
-  pub by_space : is_listed set (place_of r) ≡ true
+-- its source stands there, and its place is one
+pub record HasSource (set : Places) (r : Record) : Type 0 where
   pub by_parent : is_listed set (source_of r) ≡ true
   pub place : IsPlace r.place
 
--- Its source stands there, unless it is revoked, and its place, unless its children are too.
+-- so do both, its source and its place
+pub record HasBoth (set : Places) (r : Record) : Type 0 where
+  pub source : HasSource set r
+  pub by_space : is_listed set (place_of r) ≡ true
+
+-- its source stands there, unless it is revoked, and its place is one
 pub record IsListed (S : State) (set : Places) (r : Record) : Type 0 where
-  pub by_space : IsRevokedBelow S r ⊎ (is_listed set (place_of r) ≡ true)
   pub by_parent : IsRevoked S r ⊎ (is_listed set (source_of r) ≡ true)
   pub place : IsPlace r.place
 
 -- each record that is held is listed, as far as it is not revoked, whether its parent is held or not
-abbrev pub HasPlaces : State → Places → Type 0
-HasPlaces S set = (r : Record) → Holds S r → IsListed S set r
+abbrev pub HasSources : State → Places → Type 0
+HasSources S set = (r : Record) → Holds S r → IsListed S set r
 
 -- of a record its place, where the owner is a space, and else its source
 abbrev pub entry_for : Owner → Record → Listed
 entry_for (owners.Space space) r = place_of r
 entry_for (owners.Record parent) r = source_of r
-
--- a held record that is not listed for the owner
-pub record IsLeftOut (S : State) (set : Places) (owner : Owner) (r : Record) : Type 0 where
-  pub held : Holds S r
-  pub out : is_listed set (entry_for owner r) ≡ false
 
 -- a held record whose place or whose source the entry is
 pub record IsOfHeld (S : State) (e : Listed) : Type 0 where

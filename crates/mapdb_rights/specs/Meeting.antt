@@ -1,10 +1,12 @@
 -- The records whose places, or whose sources, share pages with a place.
-use Rattle.std.specs.Prelude.{Bool, ◌&&◌, List, filter, Option, None, Some, is_some, if◌then◌else◌}
+use Rattle.std.specs.Prelude.{◌≡◌, Bool, ◌&&◌, false, true, List, filter, Option, None, Some, is_some, if◌then◌else◌}
 use Rattle.std.specs.BTreeMap.{is_at}
 use Rattle.std.specs.List.{list_any}
 use Rattle.mapdb_fpage.specs.Place.{Place, from_page, meet}
 use Rattle.mapdb_facts.specs.Kept.{id_cmp}
+use Rattle.mapdb_facts.specs.Looking.{Holds}
 use Rattle.mapdb_facts.specs.Names.{same_id, same_space}
+use Rattle.mapdb_facts.specs.State.{State}
 use Rattle.mapdb_facts.specs.declared.names.RecordId.{RecordId}
 use Rattle.mapdb_facts.specs.declared.names.Space.{Space}
 use Rattle.mapdb_facts.specs.declared.operations.Record.{Record}
@@ -45,3 +47,10 @@ record_if test (Some r) = if test r then Some r else None
 -- the name is one of these
 abbrev pub is_named : List RecordId → RecordId → Bool
 is_named names id = list_any (is_at (id_cmp id)) names
+
+-- a held record that is the owner's and shares pages with the place, and is not among these names
+pub record IsUnnamed (S : State) (names : List RecordId) (owner : Owner) (part : Place) (r : Record)
+    : Type 0 where
+  pub held : Holds S r
+  pub shares : shares_part owner part r ≡ true
+  pub out : is_named names r.id ≡ false

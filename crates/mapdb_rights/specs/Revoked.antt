@@ -5,8 +5,6 @@ use Rattle.mapdb_fpage.specs.declared.right_sets.Right.{Right}
 use Rattle.mapdb_facts.specs.Looking.{Holds}
 use Rattle.mapdb_facts.specs.State.{State}
 use Rattle.mapdb_facts.specs.declared.operations.Record.{Record}
-use Rattle.mapdb_lists.specs.declared.places.Owner.{Owner}
-use Rattle.mapdb_lists.specs.declared.places.Owner.TheVariants as owners
 
 -- each right is taken from the record at each of its pages
 abbrev pub IsRevoked : State → Record → Type 0
@@ -17,9 +15,3 @@ IsRevoked S r = (page : ℕ) → holds r.place page ≡ true → (right : Right)
 pub record IsRevokedBelow (S : State) (r : Record) : Type 0 where
   pub own : IsRevoked S r
   pub children : (c : Record) → Holds S c → c.parent ≡ r.id → IsRevoked S c
-
--- what need not be listed of an owner: children that are revoked, and of a space's records those
--- whose children are too
-abbrev pub MayGo : State → Owner → Record → Type 0
-MayGo S (owners.Space space) r = IsRevokedBelow S r
-MayGo S (owners.Record parent) r = IsRevoked S r

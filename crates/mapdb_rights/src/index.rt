@@ -6,6 +6,7 @@ mod children;
 mod first_records;
 mod following;
 mod frame_rights;
+mod idle_places;
 mod listing;
 mod live_names;
 mod live_places;

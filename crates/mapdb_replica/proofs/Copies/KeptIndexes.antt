@@ -56,6 +56,6 @@ module _ (index : RightsIndex) (S : State) (there : index.absent ≡ false) wher
       λ id r h. subst (λ (x : RecordId). S.record_at x ≡ Some r) (sym (listed.named id r h)) h in
       record {
         no_root = λ id r h. subst (λ (x : RecordId). is_root x ≡ false) (listed.named id r h) (not_root r (listed.formed r (held id r h)));
-        places = λ id r h. (listed.places r (held id r h)).place;
-        sources = λ id r h. source_is r (listed.places r (held id r h)).place (listed.formed r (held id r h));
+        places = λ id r h. (listed.sources r (held id r h)).place;
+        sources = λ id r h. source_is r (listed.sources r (held id r h)).place (listed.formed r (held id r h));
       }

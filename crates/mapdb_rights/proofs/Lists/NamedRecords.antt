@@ -1,5 +1,5 @@
 -- The records that are looked up by ascending names are those of a list that pass.
-use Rattle.std.proofs.Common.{◌≡◌, ℕ, ◌+◌, ◌<◌, Bool, true, false, cond, Some, refl, sym, ap, subst, ◌∙◌, List, [], ◌∷◌, ◌++◌, add-one, append_assoc, drop, get_or, inl, inr, length, suc}
+use Rattle.std.proofs.Common.{◌≡◌, ℕ, zero, arith, ◌+◌, ◌<◌, ◌≤◌, Bool, true, false, cond, Some, refl, sym, ap, subst, ◌∙◌, List, [], ◌∷◌, ◌++◌, add-one, append_assoc, drop, get_or, inl, inr, length, suc}
 use Rattle.std.specs.Prelude.{◌&&◌, ◌||◌, ◌⊎◌, Option, None, filter, if◌then◌else◌}
 use Rattle.std.specs.List.{All, AllByRecursion, cons_option, dedup, dedup_from, filter_map, list_any}
 use Rattle.std.specs.List.Sorted.{IsPermutation, IsSorted, IsStrictlySortedBy}
@@ -174,6 +174,38 @@ named_among id (other ∷ names) (inr k) = or_later (is_at (id_cmp id) other) (i
     or_later : (a b : Bool) → b ≡ true → (a || b) ≡ true
     or_later true b h = refl
     or_later false b h = h
+
+-- what is named among some is named among more
+pub named_front : (id : RecordId) (names more : List RecordId) → is_named names id ≡ true → is_named (names ++ more) id ≡ true
+named_front id [] more h = absurd (false≢true h)
+named_front id (other ∷ names) more h = or_both (is_at (id_cmp id) other) (is_named names id) (is_named (names ++ more) id) (named_front id names more) h
+  where
+    or_both : (a b c : Bool) → (b ≡ true → c ≡ true) → (a || b) ≡ true → (a || c) ≡ true
+    or_both true b c f h = refl
+    or_both false b c f h = f h
+
+pub named_last : (id : RecordId) (names : List RecordId) (last : RecordId) → last ≡ id → is_named (names ++ last ∷ []) id ≡ true
+named_last id [] last e = named_among id (last ∷ []) (inl e)
+named_last id (other ∷ names) last e = or_later (is_at (id_cmp id) other) (is_named (names ++ last ∷ []) id) (named_last id names last e)
+  where
+    or_later : (a b : Bool) → b ≡ true → (a || b) ≡ true
+    or_later true b h = refl
+    or_later false b h = h
+
+-- nothing is named behind the last
+pub none_from : (names : List RecordId) (i : ℕ) (id : RecordId) → length names ≤ i → is_named (drop i names) id ≡ true → ⊥
+none_from [] zero id out h = false≢true h
+none_from [] (suc i) id out h = false≢true h
+none_from (name ∷ names) zero id out h = absurd (omega arith)
+none_from (name ∷ names) (suc i) id out h = none_from names i id (omega arith) h
+
+-- what is named from a place on stands there or is named behind it
+pub named_next : (names : List RecordId) (i : ℕ) (d id : RecordId) → i < length names → is_named (drop i names) id ≡ true → (get_or names i d ≡ id) ⊎ (is_named (drop (i + 1) names) id ≡ true)
+named_next names i d id inside h = by (is_at (id_cmp id) (get_or names i d)) refl (sym (ap (λ (xs : List RecordId). is_named xs id) (drop-cons names i d inside)) ∙ h)
+  where
+    by : (b : Bool) → is_at (id_cmp id) (get_or names i d) ≡ b → (b || is_named (drop (suc i) names) id) ≡ true → (get_or names i d ≡ id) ⊎ (is_named (drop (i + 1) names) id ≡ true)
+    by true same k = inl (sym (same_id_true id (get_or names i d) (sym (id_at id (get_or names i d)) ∙ same)))
+    by false apart k = inr ((λ j. is_named (drop (add-one i j) names) id) ∙ k)
 
 -- Those that are looked up are those of the list that pass and are named.
 pub looked_is_filtered : (facts : Facts) (test : Record → Bool) (names : List RecordId) → IsNamed (state_of_facts facts) → IsAscending itself names

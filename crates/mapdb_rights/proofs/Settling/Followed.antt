@@ -22,12 +22,12 @@ use Rattle.mapdb_rights.specs.declared.index.stale.Stale.{Stale}
 use Rattle.mapdb_rights.specs.Caching.{AreRights, IsSettled, Unsettles}
 use Rattle.mapdb_rights.specs.CachedFrames.{AreFrames}
 use Rattle.mapdb_rights.specs.Following.{AreListed}
-use Rattle.mapdb_rights.specs.HeldPlaces.{AreOfHeld, HasBoth, IsListed, place_of, source_of}
+use Rattle.mapdb_rights.specs.HeldPlaces.{AreOfHeld, HasBoth, HasSource, IsListed, place_of, source_of}
 use Rattle.mapdb_rights.specs.Pending.{AreSettledBut, IsPending}
 use Rattle.mapdb_rights.specs.PageRights.{is_record_into}
-use Rattle.std.proofs.lemmas.Bool.{cases_Bool, false≢true}
-use Rattle.mapdb_facts.proofs.Lists.SameNames.{none_some, same_id_itself, same_id_true, some_same}
-use Rattle.mapdb_rights.specs.Revoked.{IsRevoked, IsRevokedBelow}
+use Rattle.std.proofs.lemmas.Bool.{false≢true}
+use Rattle.mapdb_facts.proofs.Lists.SameNames.{none_some, some_same}
+use Rattle.mapdb_rights.specs.Revoked.{IsRevoked}
 use Rattle.mapdb_rights.proofs.Rights.Revoked.{revoked_later}
 use Rattle.mapdb_rights.proofs.Rights.FramesFrom.{frames_later}
 use Rattle.mapdb_rights.proofs.Settling.Unsettling.{operations_unsettle}
@@ -56,35 +56,22 @@ held_on S before T is r held = ap (λ (U : State). U.record_at r.id) is ∙ ap (
 pub of_held_on : (S before : State) (T : State) (set : Places) → S ≡ join before T → AreOfHeld before set → AreOfHeld S set
 of_held_on S before T set is are e has = let one = are e has in record { r = one.r; held = held_on S before T is one.r one.held; is = one.is }
 
--- where no record came, what may go may still go, and what is listed stays listed
-listed_later : (S before : State) (T : State) (set : Places) → S ≡ join before T → ((id : RecordId) → T.record_at id ≡ None) → (r : Record) → IsListed before set r → IsListed S set r
-listed_later S before T set is none r l = record {
-  by_space = elim l.by_space [
-    | inl below ↦ inl (record {
-      own = later r below.own;
-      children = λ c held child. later c (below.children c (alike c.id ∙ held) child);
-    })
-    | inr has ↦ inr has
-  ];
+-- what is revoked stays so, and what is listed stays listed
+listed_later : (S before : State) (T : State) (set : Places) → S ≡ join before T → (r : Record) → IsListed before set r → IsListed S set r
+listed_later S before T set is r l = record {
   by_parent = elim l.by_parent [
-    | inl revoked ↦ inl (later r revoked)
+    | inl revoked ↦ inl (subst (λ (U : State). IsRevoked U r) (sym is) (revoked_later before T r revoked))
     | inr has ↦ inr has
   ];
   place = l.place;
 }
-  where
-    later : (s : Record) → IsRevoked before s → IsRevoked S s
-    later s revoked = subst (λ (U : State). IsRevoked U s) (sym is) (revoked_later before T s revoked)
-
-    alike : (id : RecordId) → before.record_at id ≡ S.record_at id
-    alike id = sym (first_alone (before.record_at id)) ∙ sym (ap (first_of (before.record_at id)) (none id)) ∙ sym (ap (λ (U : State). U.record_at id) is)
 
 -- what holds the same records has the same listed
 pub listed_alike : (S before : State) (T : State) (set : Places) → S ≡ join before T → ((id : RecordId) → T.record_at id ≡ None) → AreListed before set → AreListed S set
 listed_alike S before T set is none are = record {
   named = λ id r held. are.named id r (alike id ∙ held);
   formed = λ r held. are.formed r (alike r.id ∙ held);
-  places = λ r held. listed_later S before T set is none r (are.places r (alike r.id ∙ held));
+  sources = λ r held. listed_later S before T set is r (are.sources r (alike r.id ∙ held));
   aligned = are.aligned;
   held = of_held_on S before T set is are.held;
   by_name = λ id. are.by_name id ∙ alike id;
@@ -100,89 +87,46 @@ pub listed_by_end : (S before : State) (space : Space) (set : Places) → S ≡ 
 listed_by_end S before space set is are = listed_alike S before (said (Closed space)) set is (λ id. refl) are
 
 -- what is listed stays so where more is
+pub source_on : (old new : Places) → ((e : Listed) → is_listed old e ≡ true → is_listed new e ≡ true) → (r : Record) → HasSource old r → HasSource new r
+source_on old new kept r l = record { by_parent = kept (source_of r) l.by_parent; place = l.place }
+
 pub listed_on : (old new : Places) → ((e : Listed) → is_listed old e ≡ true → is_listed new e ≡ true) → (r : Record) → HasBoth old r → HasBoth new r
-listed_on old new kept r l = record { by_space = kept (place_of r) l.by_space; by_parent = kept (source_of r) l.by_parent; place = l.place }
+listed_on old new kept r l = record { source = source_on old new kept r l.source; by_space = kept (place_of r) l.by_space }
 
--- where both are listed, nothing is missing
-pub both_listed : (S : State) (set : Places) (r : Record) → HasBoth set r → IsListed S set r
-both_listed S set r l = record { by_space = inr l.by_space; by_parent = inr l.by_parent; place = l.place }
+-- where its source is listed, nothing is missing
+pub source_listed : (S : State) (set : Places) (r : Record) → HasSource set r → IsListed S set r
+source_listed S set r l = record { by_parent = inr l.by_parent; place = l.place }
 
--- a record more is listed, and its parent's place where the parent is revoked
+-- what the state has under the name of a record that came
+pub looked_at : (S before : State) (m : Record) → S ≡ join before (said (Born m)) → (r : Record) (o : Option Record) → before.record_at r.id ≡ o → Holds S r
+    → first_of o (if same_id m.id r.id then Some m else None) ≡ Some r
+looked_at S before m is r o at held = ap (λ p. first_of p (if same_id m.id r.id then Some m else None)) (sym at) ∙ sym (ap (λ (T : State). T.record_at r.id) is) ∙ held
+
+-- the source of a record more is listed
 module _ (old new : Places) (kept : (e : Listed) → is_listed old e ≡ true → is_listed new e ≡ true)
-    (S before : State) (m : Record) (is : S ≡ join before (said (Born m))) (there : (r : Record) → S.record_at m.id ≡ Some r → HasBoth new r)
-    (parent : (p : Record) → S.record_at m.parent ≡ Some p → IsRevoked S p → is_listed new (place_of p) ≡ true)
+    (S before : State) (m : Record) (is : S ≡ join before (said (Born m))) (there : (r : Record) → S.record_at m.id ≡ Some r → HasSource new r)
     (by_name : (id : RecordId) → held_record new id ≡ S.record_at id) (listed : AreListed before old) where
-  looked : (r : Record) (o : Option Record) → before.record_at r.id ≡ o → Holds S r → first_of o (if same_id m.id r.id then Some m else None) ≡ Some r
-  looked r o at held = ap (λ p. first_of p (if same_id m.id r.id then Some m else None)) (sym at) ∙ sym (ap (λ (T : State). T.record_at r.id) is) ∙ held
-
-  newly : (r : Record) → Holds S r → (t : Bool) → (if t then Some m else None) ≡ Some r → HasBoth new r
+  newly : (r : Record) → Holds S r → (t : Bool) → (if t then Some m else None) ≡ Some r → HasSource new r
   newly r held true e = there r (ap (λ (s : Record). S.record_at s.id) (some_same m r e) ∙ held)
   newly r held false e = absurd (none_some r e)
 
-  later : (r : Record) → IsRevoked before r → IsRevoked S r
-  later r revoked = subst (λ (U : State). IsRevoked U r) (sym is) (revoked_later before (said (Born m)) r revoked)
-
-  -- a record that was held is revoked with its children, or one came that lists it
-  still_below : (r : Record) → Holds S r → IsRevokedBelow before r → IsRevokedBelow S r ⊎ (is_listed new (place_of r) ≡ true)
-  still_below r held below = by (before.record_at m.id) refl
-    where
-      child_later : (c : Record) → Holds S c → c.parent ≡ r.id → (o : Option Record) → before.record_at c.id ≡ o → first_of o (if same_id m.id c.id then Some m else None) ≡ Some c
-          → (m ≡ c) ⊎ IsRevoked S c
-      child_later c held_c child (Some d) at e = inr (later c (below.children c (at ∙ e) child))
-      child_later c held_c child None at e = by_test (same_id m.id c.id) e
-        where
-          by_test : (t : Bool) → (if t then Some m else None) ≡ Some c → (m ≡ c) ⊎ IsRevoked S c
-          by_test true k = inl (some_same m c k)
-          by_test false k = absurd (none_some c k)
-
-      each : (c : Record) → Holds S c → c.parent ≡ r.id → (m ≡ c) ⊎ IsRevoked S c
-      each c held_c child = child_later c held_c child (before.record_at c.id) refl (looked c (before.record_at c.id) refl held_c)
-
-      by : (o : Option Record) → before.record_at m.id ≡ o → IsRevokedBelow S r ⊎ (is_listed new (place_of r) ≡ true)
-      by (Some d) at = inl (record {
-        own = later r below.own;
-        children = λ c held_c child. elim (each c held_c child) [
-          | inr revoked ↦ revoked
-          | inl same ↦ later c (below.children c (held_before c held_c same) child)
-        ];
-      })
-        where
-          held_before : (c : Record) → Holds S c → m ≡ c → Holds before c
-          held_before c held_c same =
-              let here : before.record_at c.id ≡ Some d = ap (λ (x : Record). before.record_at x.id) (sym same) ∙ at in
-              here ∙ sym (ap (λ (p : Option Record). first_of p (if same_id m.id c.id then Some m else None)) here) ∙ sym (ap (λ (T : State). T.record_at c.id) is) ∙ held_c
-      by None at = elim (cases_Bool (same_id m.parent r.id)) [
-        | inl child ↦ inr (parent r (ap S.record_at (same_id_true m.parent r.id child) ∙ held) (later r below.own))
-        | inr apart ↦ inl (record {
-          own = later r below.own;
-          children = λ c held_c child. elim (each c held_c child) [
-            | inr revoked ↦ revoked
-            | inl same ↦ absurd (false≢true (sym apart ∙ ap (λ (x : Record). same_id x.parent r.id) same ∙ ap (λ (o : RecordId). same_id o r.id) child ∙ same_id_itself r.id))
-          ];
-        })
-      ]
-
   listed_of : (r : Record) → Holds S r → (o : Option Record) → before.record_at r.id ≡ o → first_of o (if same_id m.id r.id then Some m else None) ≡ Some r → IsListed S new r
-  listed_of r held None at e = both_listed S new r (newly r held (same_id m.id r.id) e)
+  listed_of r held None at e = source_listed S new r (newly r held (same_id m.id r.id) e)
   listed_of r held (Some s) at e =
-      let before_listed = listed.places r (at ∙ e) in
+      let was = listed_later S before (said (Born m)) old is r (listed.sources r (at ∙ e)) in
       record {
-        by_space = elim before_listed.by_space [
-          | inl below ↦ still_below r held below
-          | inr has ↦ inr (kept (place_of r) has)
-        ];
-        by_parent = elim before_listed.by_parent [
-          | inl revoked ↦ inl (later r revoked)
+        by_parent = elim was.by_parent [
+          | inl revoked ↦ inl revoked
           | inr has ↦ inr (kept (source_of r) has)
         ];
-        place = before_listed.place;
+        place = was.place;
       }
 
   pub listed_by_record : AllAligned new → AreOfHeld S new → IsNamed S → ((r : Record) → Holds S r → IsFormedRecord r) → AreListed S new
   listed_by_record aligned held_all named formed = record {
     named = named;
     formed = formed;
-    places = λ r held. listed_of r held (before.record_at r.id) refl (looked r (before.record_at r.id) refl held);
+    sources = λ r held. listed_of r held (before.record_at r.id) refl (looked_at S before m is r (before.record_at r.id) refl held);
     aligned = aligned;
     held = held_all;
     by_name = by_name;

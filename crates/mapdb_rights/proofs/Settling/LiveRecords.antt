@@ -32,7 +32,7 @@ pub are_live : (S : State) (cached : Cached) (listed live : Places) → AreListe
 are_live S cached listed live are rights lives = record {
   named = are.named;
   formed = are.formed;
-  placed = λ r held. (are.places r held).place;
+  placed = λ r held. (are.sources r held).place;
   listed = record {
     places = λ r held has. lives.places r held (has.0, ap is_empty (rights r.id has.0) ∙ has.1);
     aligned = lives.aligned;

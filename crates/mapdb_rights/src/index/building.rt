@@ -16,6 +16,7 @@ use super::unlisting::unlist_revoked;
 use mapdb_facts::{Facts, RecordId};
 use mapdb_fpage::PAGE_LIMIT;
 use mapdb_lists::{AllChanges, Places};
+use smallvec::SmallVec;
 use std::alloc::{AllocError, Global};
 
 /// From no changes on all is settled, beginning with the root and what has its pages from there.
@@ -41,7 +42,8 @@ pub fn settle_all(
         end: PAGE_LIMIT,
     })?;
     push_children(&mut stack, listed, facts, RecordId::ROOT, 0, PAGE_LIMIT)?;
-    settle(changes, live, &mut stack, listed, facts)?;
+    let mut idle = SmallVec::new(alloc);
+    settle(changes, live, &mut idle, &mut stack, listed, facts)?;
     unlist_revoked(listed, facts);
     Ok(())
 }

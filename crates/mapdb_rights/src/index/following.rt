@@ -8,12 +8,14 @@ ghost use Rattle.mapdb_facts.specs.declared.operations.Op.{Op};
 ghost use Rattle.mapdb_rights.specs.Following.{Stood, Stands};
 
 use super::children::push_space;
+use super::idle_places::{list_idle, note_without_rights};
 use super::listing::list_came;
 use super::settling::settle;
 use super::stale::Stale;
 use super::unlisting::unlist;
 use mapdb_facts::{Facts, Record, Revocation, Space};
 use mapdb_lists::{AllChanges, Places};
+use smallvec::SmallVec;
 use std::alloc::{AllocError, Global};
 
 /// A record came: it takes its rights from its parent, and what waited for it follows.
@@ -37,7 +39,10 @@ pub fn follow_record(
         first: mapping.place.first_page(),
         end: mapping.place.end(),
     })?;
-    settle(changes, live, &mut stack, listed, facts)
+    let mut idle = SmallVec::new(alloc);
+    settle(changes, live, &mut idle, &mut stack, listed, facts)?;
+    note_without_rights(&mut idle, changes, mapping)?;
+    list_idle(listed, facts, idle.as_slice())
 }
 
 /// Rights were taken from a part of a record: it loses them, and what has its pages from there
@@ -61,7 +66,9 @@ pub fn follow_cut(
         first: cut.part.first_page(),
         end: cut.part.end(),
     })?;
-    settle(changes, live, &mut stack, listed, facts)?;
+    let mut idle = SmallVec::new(alloc);
+    settle(changes, live, &mut idle, &mut stack, listed, facts)?;
+    list_idle(listed, facts, idle.as_slice())?;
     unlist(listed, facts, cut.target);
     Ok(())
 }
@@ -69,17 +76,19 @@ pub fn follow_cut(
 /// A space ended: its records lose their rights, and what has its pages from there follows.
 pub fn follow_end(
     changes: &mut AllChanges,
-    listed: &Places,
+    listed: &mut Places,
     live: &mut Places,
     alloc: Global,
     facts: &Facts,
     space: Space,
 ) -> Result<(), AllocError>
-    requires stood { Stood changes.old listed.now live.old (Op.Closed space)
+    requires stood { Stood changes.old listed.old live.old (Op.Closed space)
         (state_of_facts facts.now) }
-    ensures { OnOk result (Stands changes.new listed.now live.new (state_of_facts facts.now)) }
+    ensures { OnOk result (Stands changes.new listed.new live.new (state_of_facts facts.now)) }
 {
     let mut stack = Vec::new(alloc);
     push_space(&mut stack, live, listed, facts, space)?;
-    settle(changes, live, &mut stack, listed, facts)
+    let mut idle = SmallVec::new(alloc);
+    settle(changes, live, &mut idle, &mut stack, listed, facts)?;
+    list_idle(listed, facts, idle.as_slice())
 }

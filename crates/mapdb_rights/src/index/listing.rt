@@ -1,20 +1,24 @@
-//! Which places are listed: each held record at its place, and at its source, as far as something
-//! is left to revoke there. The record itself is held beside them.
+//! Which places are listed: the source of each held record, and the place of one without rights, as
+//! far as something is left to revoke there. The record itself is held beside them.
 
-ghost use Rattle.std.specs.Prelude.{◌≡◌, ◌⊎◌, true, IfSome, None, OnOk, Some};
+ghost use Rattle.std.specs.Prelude.{◌≡◌, ◌⊎◌, ◌∷◌, [], true, IfSome, None, OnOk, Some};
 ghost use Rattle.mapdb_fpage.specs.Place.{IsPlace};
 ghost use Rattle.mapdb_facts.specs.Facts.{state_of_facts};
 ghost use Rattle.mapdb_facts.specs.Looking.{Holds};
 ghost use Rattle.mapdb_facts.specs.Merging.{IsNamed};
+ghost use Rattle.mapdb_facts.specs.State.{State, join, said};
 ghost use Rattle.mapdb_facts.specs.WellFormed.{IsFormedRecord};
 ghost use Rattle.mapdb_facts.specs.declared.names.RecordId.{RecordId};
 ghost use Rattle.mapdb_facts.specs.declared.operations.Op.{Op};
 ghost use Rattle.mapdb_facts.specs.declared.operations.Record.{Record};
+ghost use Rattle.mapdb_lists.specs.Changes.{Cached};
 ghost use Rattle.mapdb_lists.specs.Listing.{AllAligned, IsAligned, held_record, held_with};
 ghost use Rattle.mapdb_lists.specs.Listing.{is_listed};
 ghost use Rattle.mapdb_lists.specs.declared.places.Listed.{Listed};
 ghost use Rattle.mapdb_rights.specs.Following.{AreListed, WereListed};
-ghost use Rattle.mapdb_rights.specs.HeldPlaces.{AreHeldOf, AreOfHeld, HasBoth, place_of, source_of};
+ghost use Rattle.mapdb_rights.specs.HeldPlaces.{AreHeldOf, AreOfHeld, HasBoth, HasSource, place_of};
+ghost use Rattle.mapdb_rights.specs.HeldPlaces.{source_of};
+ghost use Rattle.mapdb_rights.specs.IdlePlaces.{HasIdle, HasIdleBut};
 ghost use Rattle.mapdb_rights.specs.Revoked.{IsRevoked};
 
 use super::unlisting::is_revoked;
@@ -39,6 +43,7 @@ pub(crate) fn place_of(mapping: &Record) -> Listed
 /// A record's source, which stands under its parent.
 pub(crate) fn source_of(mapping: &Record) -> Listed
     ensures is { result ≡ source_of mapping.now }
+    ensures place { IsPlace mapping.now.place }
     ensures aligned { IsFormedRecord mapping.now → IsAligned result }
 {
     Listed {
@@ -65,9 +70,27 @@ pub(crate) fn list_place(listed: &mut Places, place: Listed) -> Result<(), Alloc
     Ok(())
 }
 
-/// Lists a record: its source for its parent, which may be held or not, and its place for its
-/// space. It is held under its name.
-pub(crate) fn list_record(listed: &mut Places, mapping: &Record) -> Result<(), AllocError>
+/// Lists the source of a record for its parent, which may be held or not. The record is held under
+/// its name.
+fn list_source(listed: &mut Places, mapping: &Record) -> Result<(), AllocError>
+    requires formed { IsFormedRecord mapping.now }
+    requires aligned { AllAligned listed.old }
+    ensures aligned { OnOk result (AllAligned listed.new) }
+    ensures there { OnOk result (HasSource listed.new mapping.now) }
+    ensures kept { OnOk result ((other : Listed) → is_listed listed.old other ≡ true
+        → is_listed listed.new other ≡ true) }
+    ensures no_more { OnOk result ((other : Listed) → is_listed listed.new other ≡ true
+        → (other ≡ source_of mapping.now) ⊎ (is_listed listed.old other ≡ true)) }
+    ensures records { OnOk result ((id : RecordId) → held_record listed.new id
+        ≡ held_with listed.old mapping.now id) }
+{
+    listed.hold(mapping)?;
+    list_place(listed, source_of(mapping))
+}
+
+/// Lists a record: its source for its parent, and its place for its space. It is held under its
+/// name.
+fn list_record(listed: &mut Places, mapping: &Record) -> Result<(), AllocError>
     requires formed { IsFormedRecord mapping.now }
     requires aligned { AllAligned listed.old }
     ensures aligned { OnOk result (AllAligned listed.new) }
@@ -80,19 +103,18 @@ pub(crate) fn list_record(listed: &mut Places, mapping: &Record) -> Result<(), A
     ensures records { OnOk result ((id : RecordId) → held_record listed.new id
         ≡ held_with listed.old mapping.now id) }
 {
-    listed.hold(mapping)?;
-    list_place(listed, source_of(mapping))?;
+    list_source(listed, mapping)?;
     list_place(listed, place_of(mapping))
 }
 
-/// Lists the record that is held under a name, where there is one. Each held record stands under
-/// its own name and is well-formed.
+/// Lists the source of the record that is held under a name, where there is one. Each held record
+/// stands under its own name and is well-formed.
 fn list_held(listed: &mut Places, facts: &Facts, id: RecordId) -> Result<(), AllocError>
     requires aligned { AllAligned listed.old }
     requires held { AreOfHeld (state_of_facts facts.now) listed.old }
     ensures aligned { OnOk result (AllAligned listed.new) }
     ensures there { OnOk result ((r : Record) → (state_of_facts facts.now).record_at id ≡ Some r
-        → HasBoth listed.new r) }
+        → HasSource listed.new r) }
     ensures kept { OnOk result ((other : Listed) → is_listed listed.old other ≡ true
         → is_listed listed.new other ≡ true) }
     ensures held { OnOk result (AreOfHeld (state_of_facts facts.now) listed.new) }
@@ -102,7 +124,7 @@ fn list_held(listed: &mut Places, facts: &Facts, id: RecordId) -> Result<(), All
     ensures held_formed { (r : Record) → Holds (state_of_facts facts.now) r → IsFormedRecord r }
 {
     match facts.record(id) {
-        Some(mapping) => list_record(listed, &mapping),
+        Some(mapping) => list_source(listed, &mapping),
         None => Ok(()),
     }
 }
@@ -128,14 +150,19 @@ fn list_parent(listed: &mut Places, facts: &Facts, parent: RecordId) -> Result<(
     }
 }
 
-/// Lists a record that came, and the place of its parent again where it may be missing.
+/// Lists the source of a record that came, and the place of its parent again where it may be
+/// missing. Its own place is not listed: it may have rights.
 pub(crate) fn list_came(
     listed: &mut Places,
     facts: &Facts,
     mapping: &Record,
 ) -> Result<(), AllocError>
     requires { WereListed listed.old (Op.Born mapping.now) (state_of_facts facts.now) }
-    ensures { OnOk result (AreListed (state_of_facts facts.now) listed.new) }
+    ensures listed { OnOk result (AreListed (state_of_facts facts.now) listed.new) }
+    ensures idle { OnOk result ((before : State) (cached : Cached)
+        → state_of_facts facts.now ≡ join before (said (Op.Born mapping.now))
+        → HasIdle before cached listed.old
+        → HasIdleBut (state_of_facts facts.now) cached (mapping.now.id ∷ []) listed.new) }
 {
     list_held(listed, facts, mapping.id)?;
     list_parent(listed, facts, mapping.parent)?;

@@ -1,15 +1,18 @@
 //! The places of the records that have a right at some page: what a question goes over. A record
 //! comes there with its first right and goes with its last one.
 
-ghost use Rattle.std.specs.Prelude.{◌≡◌, ◌⊎◌, false, true, OnOk, Some};
+ghost use Rattle.std.specs.Prelude.{◌≡◌, ◌⊎◌, ℕ, false, true, OnOk, Some};
+ghost use Rattle.mapdb_fpage.specs.RightSets.{is_empty};
 ghost use Rattle.mapdb_facts.specs.Facts.{state_of_facts};
 ghost use Rattle.mapdb_facts.specs.Names.{same_id};
+ghost use Rattle.mapdb_facts.specs.declared.names.RecordId.{RecordId};
 ghost use Rattle.mapdb_facts.specs.declared.operations.Record.{Record};
-ghost use Rattle.mapdb_lists.specs.Changes.{cached_in};
+ghost use Rattle.mapdb_lists.specs.Changes.{Cached, cached_in};
 ghost use Rattle.mapdb_lists.specs.Listing.{AllAligned, is_listed};
 ghost use Rattle.mapdb_lists.specs.declared.places.Listed.{Listed};
 ghost use Rattle.mapdb_rights.specs.Following.{AreListed};
 ghost use Rattle.mapdb_rights.specs.HeldPlaces.{place_of};
+ghost use Rattle.mapdb_rights.specs.IdlePlaces.{StayNoted};
 ghost use Rattle.mapdb_rights.specs.LivePlaces.{IsPlaceUnder, ListedLive, ListsLive};
 
 use super::listing::{list_place, place_of, record_under};
@@ -18,6 +21,7 @@ use super::stale::Stale;
 use mapdb_facts::{Facts, RecordId};
 use mapdb_fpage::Rights;
 use mapdb_lists::{AllChanges, Places};
+use smallvec::SmallVec;
 use std::alloc::AllocError;
 
 /// Lists the place of the record that is held under a name, where there is one.
@@ -58,9 +62,11 @@ fn unlist_live(live: &mut Places, listed: &Places, facts: &Facts, id: RecordId)
 }
 
 /// After rights of a record were written over pages: its place is listed where it had no right
-/// before and has one now, and goes where it had one and has none. An error where memory ran out.
+/// before and has one now, and goes where it had one and has none; its name is noted then. An error
+/// where memory ran out.
 pub(crate) fn follow_live(
     live: &mut Places,
+    idle: &mut SmallVec<RecordId, 4>,
     changes: &AllChanges,
     listed: &Places,
     facts: &Facts,
@@ -72,8 +78,13 @@ pub(crate) fn follow_live(
     requires written { rights ≡ cached_in changes.now.own.entries run.id run.first }
     requires before { ListedLive (state_of_facts facts.now) (cached_in changes.now.own.entries)
         live.old run.id had_some }
-    ensures { OnOk result (ListsLive (state_of_facts facts.now)
+    ensures live { OnOk result (ListsLive (state_of_facts facts.now)
         (cached_in changes.now.own.entries) live.new) }
+    ensures noted { OnOk result ((before : Cached) → (had_some ≡ false
+        → (page : ℕ) → is_empty (before run.id page) ≡ true)
+        → ((other : RecordId) (page : ℕ) → same_id run.id other ≡ false
+        → cached_in changes.now.own.entries other page ≡ before other page)
+        → StayNoted before idle.old.items (cached_in changes.now.own.entries) idle.new.items) }
 {
     let has = has_some(changes, run.id, run.first, rights);
     if has == had_some {
@@ -83,5 +94,6 @@ pub(crate) fn follow_live(
         return list_live(live, listed, facts, run.id);
     }
     unlist_live(live, listed, facts, run.id);
+    idle.push(run.id)?;
     Ok(())
 }

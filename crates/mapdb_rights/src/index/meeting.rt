@@ -1,10 +1,11 @@
 //! The records whose places, or whose sources, share pages with a place.
 
 use super::rights_index::RightsIndex;
-use super::sharing::all_sharing;
+use super::sharing::{add_names, all_sharing};
 use mapdb_facts::{Facts, Record, RecordId, Space};
 use mapdb_fpage::Fpage;
 use mapdb_lists::Owner;
+use smallvec::SmallVec;
 use std::alloc::AllocError;
 
 impl RightsIndex {
@@ -39,8 +40,11 @@ impl RightsIndex {
         if self.absent {
             return Ok(None);
         }
-        let (listed, owner) = (&self.listed, Owner::Space(space));
-        let found = all_sharing(self.alloc, listed, listed, facts, owner, part)?;
+        let owner = Owner::Space(space);
+        let mut names = SmallVec::new(self.alloc);
+        add_names(&mut names, &self.live, owner, part)?;
+        add_names(&mut names, &self.listed, owner, part)?;
+        let found = all_sharing(self.alloc, &mut names, &self.listed, facts, owner, part)?;
         Ok(Some(found))
     }
 
@@ -65,8 +69,10 @@ impl RightsIndex {
         if self.absent {
             return Ok(None);
         }
-        let (live, owner) = (&self.live, Owner::Space(space));
-        let found = all_sharing(self.alloc, live, &self.listed, facts, owner, part)?;
+        let holder = Owner::Space(space);
+        let mut names = SmallVec::new(self.alloc);
+        add_names(&mut names, &self.live, holder, part)?;
+        let found = all_sharing(self.alloc, &mut names, &self.listed, facts, holder, part)?;
         Ok(Some(found))
     }
 
@@ -91,8 +97,10 @@ impl RightsIndex {
         if self.absent {
             return Ok(None);
         }
-        let (listed, owner) = (&self.listed, Owner::Record(parent));
-        let found = all_sharing(self.alloc, listed, listed, facts, owner, part)?;
+        let parent = Owner::Record(parent);
+        let mut names = SmallVec::new(self.alloc);
+        add_names(&mut names, &self.listed, parent, part)?;
+        let found = all_sharing(self.alloc, &mut names, &self.listed, facts, parent, part)?;
         Ok(Some(found))
     }
 }

@@ -14,7 +14,8 @@ use std::alloc::{AllocError, Global};
 pub struct RightsIndex {
     /// The rights of each record from page to page, with frames.
     pub(crate) changes: AllChanges,
-    /// The places and sources of held records, but for what is revoked, and the records by name.
+    /// The sources of held records, and the places of those without rights, but for what is
+    /// revoked; and the records by name.
     pub(crate) listed: Places,
     /// The places of the records with a right at some page.
     pub(crate) live: Places,
@@ -110,7 +111,7 @@ impl RightsIndex {
             ),
             Op::Closed(space) => follow_end(
                 &mut self.changes,
-                &self.listed,
+                &mut self.listed,
                 &mut self.live,
                 self.alloc,
                 facts,

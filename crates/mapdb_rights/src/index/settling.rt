@@ -10,6 +10,7 @@ ghost use Rattle.mapdb_lists.specs.Listing.{listed_len};
 ghost use Rattle.mapdb_rights.specs.Caching.{IsSettled};
 ghost use Rattle.mapdb_rights.specs.CachedFrames.{AreFrames};
 ghost use Rattle.mapdb_rights.specs.Following.{AreListed, Shows};
+ghost use Rattle.mapdb_rights.specs.IdlePlaces.{StayNoted};
 ghost use Rattle.mapdb_rights.specs.LivePlaces.{ListsLive};
 ghost use Rattle.mapdb_rights.specs.Pending.{AreSettledBut, IsPending, base_of, share, weight};
 ghost use Rattle.mapdb_rights.specs.Pending.{worth};
@@ -20,17 +21,19 @@ use super::live_places::follow_live;
 use super::runs::has_some;
 use super::stale::Stale;
 use super::stepping::{Step, step_at};
-use mapdb_facts::Facts;
+use mapdb_facts::{Facts, RecordId};
 use mapdb_fpage::PAGE_LIMIT;
 use mapdb_lists::{AllChanges, Places, write};
+use smallvec::SmallVec;
 use std::alloc::AllocError;
 
 /// Pages over which all is steady get what follows from the parent. Where the rights are others
-/// than before, the record's place comes to those with rights or goes from them, and the pages of
-/// children that come from there join what is stale.
+/// than before, the record's place comes to those with rights or goes from them, with its name
+/// noted, and the pages of children that come from there join what is stale.
 fn settle_run(
     changes: &mut AllChanges,
     live: &mut Places,
+    idle: &mut SmallVec<RecordId, 4>,
     stack: &mut Vec<Stale>,
     listed: &Places,
     facts: &Facts,
@@ -48,6 +51,8 @@ fn settle_run(
     ensures frames { OnOk result (AreFrames (state_of_facts facts.now) changes.new.own.entries) }
     ensures live { OnOk result (ListsLive (state_of_facts facts.now)
         (cached_in changes.new.own.entries) live.new) }
+    ensures noted { OnOk result (StayNoted (cached_in changes.old.own.entries) idle.old.items
+        (cached_in changes.new.own.entries) idle.new.items) }
     ensures settled { OnOk result ((id : RecordId) (page : ℕ)
         → IsSettled (state_of_facts facts.now) (cached_in changes.old.own.entries) id page
         ⊎ (covers run.id run.first run.end id page ≡ true)
@@ -65,6 +70,7 @@ fn settle_run(
     write(changes, run.id, run.first, run.end, next.old, next.change)?;
     follow_live(
         live,
+        idle,
         changes,
         listed,
         facts,
@@ -99,6 +105,7 @@ fn keep_rest(stack: &mut Vec<Stale>, stale: Stale, end: u64) -> Result<(), Alloc
 fn settle_next(
     changes: &mut AllChanges,
     live: &mut Places,
+    idle: &mut SmallVec<RecordId, 4>,
     stack: &mut Vec<Stale>,
     listed: &Places,
     facts: &Facts,
@@ -113,6 +120,8 @@ fn settle_next(
     ensures frames { OnOk result (AreFrames (state_of_facts facts.now) changes.new.own.entries) }
     ensures live { OnOk result (ListsLive (state_of_facts facts.now)
         (cached_in changes.new.own.entries) live.new) }
+    ensures noted { OnOk result (StayNoted (cached_in changes.old.own.entries) idle.old.items
+        (cached_in changes.new.own.entries) idle.new.items) }
     ensures settled { OnOk result (AreSettledBut (state_of_facts facts.now)
         (cached_in changes.new.own.entries) stack.new.items) }
     ensures weight { OnOk result (weight (base_of listed.now) stack.new.items
@@ -129,13 +138,15 @@ fn settle_next(
         first: stale.first,
         end,
     };
-    settle_run(changes, live, stack, listed, facts, run, next)
+    settle_run(changes, live, idle, stack, listed, facts, run, next)
 }
 
-/// Settles what is stale, until nothing is.
+/// Settles what is stale, until nothing is. The names of records that lost all their rights are
+/// noted.
 pub fn settle(
     changes: &mut AllChanges,
     live: &mut Places,
+    idle: &mut SmallVec<RecordId, 4>,
     stack: &mut Vec<Stale>,
     listed: &Places,
     facts: &Facts,
@@ -146,10 +157,12 @@ pub fn settle(
     requires frames { AreFrames (state_of_facts facts.now) changes.old.own.entries }
     requires live { ListsLive (state_of_facts facts.now) (cached_in changes.old.own.entries)
         live.old }
-    ensures { OnOk result (Shows changes.new live.new (state_of_facts facts.now)) }
+    ensures shows { OnOk result (Shows changes.new live.new (state_of_facts facts.now)) }
+    ensures noted { OnOk result (StayNoted (cached_in changes.old.own.entries) idle.old.items
+        (cached_in changes.new.own.entries) idle.new.items) }
 {
     'stale: while let Some(stale) = stack.pop() {
-        settle_next(changes, live, stack, listed, facts, stale)?;
+        settle_next(changes, live, idle, stack, listed, facts, stale)?;
     }
     Ok(())
 }

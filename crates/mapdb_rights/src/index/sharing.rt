@@ -1,8 +1,9 @@
 //! The records of an owner that share pages with a place, found among what is listed.
 
-ghost use Rattle.std.specs.Prelude.{◌≡◌, true, All, IfOk, filter};
+ghost use Rattle.std.specs.Prelude.{◌≡◌, ◌+◌, true, All, IfOk, OnOk, filter};
 ghost use Rattle.std.specs.List.{filter_map};
 ghost use Rattle.std.specs.List.Sorted.{IsStrictlySortedBy};
+ghost use Rattle.mapdb_fpage.specs.Place.{page_total};
 ghost use Rattle.mapdb_facts.specs.Facts.{records_of_facts, state_of_facts};
 ghost use Rattle.mapdb_facts.specs.Kept.{id_cmp};
 ghost use Rattle.mapdb_facts.specs.WellFormed.{IsFormedRecord};
@@ -13,8 +14,7 @@ ghost use Rattle.mapdb_lists.specs.declared.own_places.OwnPlace.{OwnPlace};
 ghost use Rattle.mapdb_lists.specs.declared.places.Listed.{Listed};
 ghost use Rattle.mapdb_rights.specs.AllBut.{IsAllBut};
 ghost use Rattle.mapdb_rights.specs.Following.{AreListed};
-ghost use Rattle.mapdb_rights.specs.HeldPlaces.{IsLeftOut};
-ghost use Rattle.mapdb_rights.specs.Meeting.{is_named, record_if, shares_part};
+ghost use Rattle.mapdb_rights.specs.Meeting.{IsUnnamed, is_named, record_if, shares_part};
 
 use super::listing::record_under;
 use mapdb_facts::{Facts, Record, RecordId};
@@ -23,24 +23,46 @@ use mapdb_lists::{OwnPlaces, Owner, Places, Sweep};
 use smallvec::SmallVec;
 use std::alloc::{AllocError, Global};
 
-/// The names of all places that meet the pages from `first` on up to before `end`, as they come.
-fn names_of(
-    alloc: Global,
+/// Adds the names of all places that meet the pages from `first` on up to before `end`, as they
+/// come.
+fn add_names_of(
+    names: &mut SmallVec<RecordId, 4>,
     own: &OwnPlaces,
     first: u64,
     end: u64,
-) -> Result<SmallVec<RecordId, 4>, AllocError>
+) -> Result<(), AllocError>
     requires { AreAligned (own_list own.now) }
-    ensures { IfOk result (λ names. (p : OwnPlace) → stands (own_list own.now) p ≡ true
-        → own_meets p first end ≡ true → is_named names.items p.id ≡ true) }
+    ensures kept { OnOk result ((id : RecordId) → is_named names.old.items id ≡ true
+        → is_named names.new.items id ≡ true) }
+    ensures named { OnOk result ((p : OwnPlace) → stands (own_list own.now) p ≡ true
+        → own_meets p first end ≡ true → is_named names.new.items p.id ≡ true) }
 {
-    let mut names = SmallVec::new(alloc);
     let mut sweep = Sweep::start();
     'places: while let Some(next) = own.next_place(first, end, sweep) {
         names.push(next.place.id)?;
         sweep = next.sweep;
     }
-    Ok(names)
+    Ok(())
+}
+
+/// Adds the names of all entries of the owner that meet the pages of a place.
+pub(crate) fn add_names(
+    names: &mut SmallVec<RecordId, 4>,
+    listed: &Places,
+    owner: Owner,
+    part: &Fpage,
+) -> Result<(), AllocError>
+    requires { AllAligned listed.now }
+    ensures kept { OnOk result ((id : RecordId) → is_named names.old.items id ≡ true
+        → is_named names.new.items id ≡ true) }
+    ensures named { OnOk result ((e : Listed) → is_listed listed.now e ≡ true → e.owner ≡ owner
+        → meets e part.now.first_page (part.now.first_page + page_total part.now) ≡ true
+        → is_named names.new.items e.id ≡ true) }
+{
+    match listed.own(owner) {
+        Some(own) => add_names_of(names, own, part.first_page(), part.end()),
+        None => Ok(()),
+    }
 }
 
 /// Puts names in ascending order, each once.
@@ -51,24 +73,6 @@ fn put_in_order(names: &mut SmallVec<RecordId, 4>)
 {
     names.as_mut_slice().sort_unstable();
     names.dedup();
-}
-
-/// The names of all entries of the owner that meet the pages from `first` on up to before `end`.
-fn names_meeting(
-    alloc: Global,
-    listed: &Places,
-    owner: Owner,
-    first: u64,
-    end: u64,
-) -> Result<SmallVec<RecordId, 4>, AllocError>
-    requires { AllAligned listed.now }
-    ensures { IfOk result (λ names. (e : Listed) → is_listed listed.now e ≡ true
-        → e.owner ≡ owner → meets e first end ≡ true → is_named names.items e.id ≡ true) }
-{
-    match listed.own(owner) {
-        Some(own) => names_of(alloc, own, first, end),
-        None => Ok(SmallVec::new(alloc)),
-    }
 }
 
 /// Whether the record is the owner's and shares pages with the place: a space's by its place, a
@@ -129,23 +133,21 @@ fn named_sharing(
 }
 
 /// All records that are the owner's and share pages with the place, in ascending order of name, but
-/// for some that are not listed for the owner among these places.
+/// for those whose names are not among these.
 pub(crate) fn all_sharing(
     alloc: Global,
-    places: &Places,
+    names: &mut SmallVec<RecordId, 4>,
     listed: &Places,
     facts: &Facts,
     owner: Owner,
     part: &Fpage,
 ) -> Result<Vec<Record>, AllocError>
-    requires aligned { AllAligned places.now }
-    requires listed { AreListed (state_of_facts facts.now) listed.now }
+    requires { AreListed (state_of_facts facts.now) listed.now }
     ensures sharing { IfOk result (λ found.
-        IsAllBut (IsLeftOut (state_of_facts facts.now) places.now owner)
+        IsAllBut (IsUnnamed (state_of_facts facts.now) names.old.items owner part.now)
         (filter (shares_part owner part.now) (records_of_facts facts.now)) found.items) }
     ensures formed { IfOk result (λ found. All IsFormedRecord found.items) }
 {
-    let mut names = names_meeting(alloc, places, owner, part.first_page(), part.end())?;
-    put_in_order(&mut names);
+    put_in_order(names);
     named_sharing(alloc, names.as_slice(), listed, facts, owner, part)
 }

@@ -5,10 +5,12 @@ ghost use Rattle.std.specs.Prelude.{◌≡◌, ◌↔◌, IsTrue, true};
 ghost use Rattle.mapdb_facts.specs.Facts.{state_of_facts};
 ghost use Rattle.mapdb_facts.specs.Looking.{Holds};
 ghost use Rattle.mapdb_facts.specs.State.{State};
+ghost use Rattle.mapdb_lists.specs.Changes.{Cached};
 ghost use Rattle.mapdb_lists.specs.Listing.{AllAligned, is_listed};
 ghost use Rattle.mapdb_lists.specs.declared.places.Listed.{Listed};
 ghost use Rattle.mapdb_lists.specs.declared.places.Owner.TheVariants as owners;
 ghost use Rattle.mapdb_rights.specs.Following.{AreListed};
+ghost use Rattle.mapdb_rights.specs.IdlePlaces.{HasIdle};
 ghost use Rattle.mapdb_rights.specs.Revoked.{IsRevoked};
 
 use super::listing::{place_of, record_under, source_of};
@@ -41,8 +43,10 @@ fn is_childless(listed: &Places, id: RecordId) -> bool
 
 /// Lets go of the source of a revoked record.
 fn unlist_source(listed: &mut Places, mapping: &Record)
-    ensures { (S : State) → AreListed S listed.old → Holds S mapping.now → IsRevoked S mapping.now
-        → AreListed S listed.new }
+    ensures listed { (S : State) → AreListed S listed.old → Holds S mapping.now
+        → IsRevoked S mapping.now → AreListed S listed.new }
+    ensures idle { (S : State) (cached : Cached) → HasIdle S cached listed.old
+        → HasIdle S cached listed.new }
 {
     listed.remove(source_of(mapping));
 }
@@ -50,8 +54,9 @@ fn unlist_source(listed: &mut Places, mapping: &Record)
 /// Lets go of the place of a revoked record, unless a child of it is listed.
 fn unlist_place(listed: &mut Places, mapping: &Record)
     requires { AllAligned listed.old }
-    ensures { (S : State) → AreListed S listed.old → Holds S mapping.now → IsRevoked S mapping.now
-        → AreListed S listed.new }
+    ensures listed { (S : State) → AreListed S listed.old → AreListed S listed.new }
+    ensures idle { (S : State) (cached : Cached) → AreListed S listed.old → Holds S mapping.now
+        → IsRevoked S mapping.now → HasIdle S cached listed.old → HasIdle S cached listed.new }
 {
     if is_childless(listed, mapping.id) {
         listed.remove(place_of(mapping));
@@ -61,7 +66,9 @@ fn unlist_place(listed: &mut Places, mapping: &Record)
 /// Lets go of the place of the record of a name, where it is revoked and has no child listed.
 fn unlist_parent(listed: &mut Places, facts: &Facts, id: RecordId)
     requires { AreListed (state_of_facts facts.now) listed.old }
-    ensures { AreListed (state_of_facts facts.now) listed.new }
+    ensures listed { AreListed (state_of_facts facts.now) listed.new }
+    ensures idle { (cached : Cached) → HasIdle (state_of_facts facts.now) cached listed.old
+        → HasIdle (state_of_facts facts.now) cached listed.new }
 {
     let Some(mapping) = record_under(listed, facts, id) else {
         return;
@@ -75,7 +82,9 @@ fn unlist_parent(listed: &mut Places, facts: &Facts, id: RecordId)
 /// it is revoked, and of its place where its children are too; and so of its parent's place.
 pub(crate) fn unlist(listed: &mut Places, facts: &Facts, id: RecordId)
     requires { AreListed (state_of_facts facts.now) listed.old }
-    ensures { AreListed (state_of_facts facts.now) listed.new }
+    ensures listed { AreListed (state_of_facts facts.now) listed.new }
+    ensures idle { (cached : Cached) → HasIdle (state_of_facts facts.now) cached listed.old
+        → HasIdle (state_of_facts facts.now) cached listed.new }
 {
     let Some(mapping) = record_under(listed, facts, id) else {
         return;
@@ -91,7 +100,9 @@ pub(crate) fn unlist(listed: &mut Places, facts: &Facts, id: RecordId)
 /// Lets go of each held record, as far as nothing is left to revoke there.
 pub(crate) fn unlist_revoked(listed: &mut Places, facts: &Facts)
     requires { AreListed (state_of_facts facts.now) listed.old }
-    ensures { AreListed (state_of_facts facts.now) listed.new }
+    ensures listed { AreListed (state_of_facts facts.now) listed.new }
+    ensures idle { (cached : Cached) → HasIdle (state_of_facts facts.now) cached listed.old
+        → HasIdle (state_of_facts facts.now) cached listed.new }
 {
     for mapping in facts.records() {
         unlist(listed, facts, mapping.id);

@@ -11,6 +11,7 @@ use Rattle.mapdb_rights.specs.LivePlaces.{ListsLive}
 use Rattle.mapdb_rights.specs.Pending.{AreSettledBut, IsPending}
 use Rattle.mapdb_rights.proofs.Settling.Built.{left_from_nothing}
 use Rattle.mapdb_rights.proofs.Rights.FramesFrom.{no_change_frames}
+use Rattle.mapdb_rights.proofs.Settling.IdleRecords.{idle_of_all}
 use Rattle.mapdb_rights.proofs.Settling.LiveRecords.{none_live}
 use Rattle.mapdb_rights.proofs.Settling.Pendings.{pending_last}
 use Rattle.mapdb_rights.proofs.Settling.Settlement.{to_covers}
@@ -27,9 +28,9 @@ settle-requires-clause-settled c =
     let own : S.record_at r.id ≡ Some r = ap S.record_at named ∙ held in
     let formed = c.in_ok-list_records.ensures.listed.formed r own in
     let both = c.in_ok-list_records.ensures.all r own in
-    let below = source_below r page both.place formed inside in
+    let below = source_below r page both.source.place formed inside in
     subst (λ (o : RecordId). IsPending c.push_children.new.stack.items o page) named
-    (c.in_ok-push_children.ensures.stale r own formed both.by_parent parent page inside (omega arith) below)))
+    (c.in_ok-push_children.ensures.stale r own formed both.source.by_parent parent page inside (omega arith) below)))
 
 pub settle-requires-clause-frames : goal.settle-requires-clause-frames
 settle-requires-clause-frames c = subst (λ e. AreFrames (state_of_facts c.args.facts.now) e) (sym c.requires.changes) (no_change_frames (state_of_facts c.args.facts.now))
@@ -41,4 +42,9 @@ settle-requires-clause-live c =
     (none_live S c.args.live.now c.in_ok-list_records.ensures.listed.formed c.requires.no_place)
 
 pub returns : goal.returns
-returns c = record { shows = c.in_ok-settle.ensures; listed_there = c.unlist_revoked.ensures }
+returns c = record {
+  shows = c.in_ok-settle.ensures.shows;
+  listed_there = c.unlist_revoked.ensures.listed;
+  idle_there = c.unlist_revoked.ensures.idle (cached_in c.settle.new.changes.own.entries)
+      (idle_of_all (state_of_facts c.args.facts.now) (cached_in c.settle.new.changes.own.entries) c.list_records.new.listed c.in_ok-list_records.ensures.all);
+}

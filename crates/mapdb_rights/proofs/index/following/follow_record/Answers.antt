@@ -1,14 +1,17 @@
-use Rattle.std.proofs.Common.{◌∙◌}
+use Rattle.std.proofs.Common.{◌∙◌, List, [], subst, sym}
 use Rattle.std.specs.Prelude.{◌&&◌, nat_le, nat_lt}
 use Rattle.std.proofs.lemmas.Bool.{and_from}
 use Rattle.mapdb_fpage.specs.Place.{holds}
 use Rattle.mapdb_facts.specs.Facts.{state_of_facts}
 use Rattle.mapdb_facts.specs.Names.{same_id}
-use Rattle.mapdb_facts.specs.State.{said}
+use Rattle.mapdb_facts.specs.State.{State, said}
+use Rattle.mapdb_facts.specs.declared.names.RecordId.{RecordId}
 use Rattle.mapdb_facts.specs.declared.operations.Op.TheVariants.{Born}
-use Rattle.mapdb_lists.specs.Changes.{cached_in}
-use Rattle.mapdb_lists.proofs.Lists.Results.{on_ok}
+use Rattle.mapdb_lists.specs.Changes.{Cached, cached_in}
+use Rattle.mapdb_lists.proofs.Lists.Results.{on_both}
 use Rattle.mapdb_rights.proofs.Settling.Followed.{frames_by_op, left_by_op}
+use Rattle.mapdb_rights.specs.IdlePlaces.{HasIdleBut, StayNoted}
+use Rattle.mapdb_rights.proofs.Settling.IdleRecords.{idle_noted}
 use Rattle.mapdb_rights.proofs.Settling.LiveRecords.{live_later}
 use Rattle.mapdb_rights.proofs.Settling.Pendings.{pending_last}
 use Rattle.mapdb_rights.proofs.index.following.follow_record.Goals as goal
@@ -31,7 +34,21 @@ pub settle-requires-clause-live : goal.settle-requires-clause-live
 settle-requires-clause-live c =
     let stood = c.requires.stood in
     live_later (state_of_facts c.args.facts.now) stood.before (said (Born c.args.mapping.now)) (cached_in c.args.changes.now.own.entries) c.args.live.now stood.is
-    c.in_ok-list_came.ensures.formed stood.stood.shows.rights stood.stood.shows.live_there
+    c.in_ok-list_came.ensures.listed.formed stood.stood.shows.rights stood.stood.shows.live_there
 
 pub returns : goal.returns
-returns c = on_ok c.settle.result (λ shows. record { shows = shows; listed_there = c.in_ok-list_came.ensures }) c.settle.ensures
+returns c =
+    let S : State = state_of_facts c.args.facts.now in
+    let stood = c.requires.stood in
+    let cached : Cached = cached_in c.args.changes.now.own.entries in
+    let later : Cached = cached_in c.settle.new.changes.own.entries in
+    let names = c.note_without_rights.new.idle.items in
+    let stay : StayNoted cached [] later c.settle.new.idle.items =
+    subst (λ (old : List RecordId). StayNoted cached old later c.settle.new.idle.items) c.new-idle.ensures.items c.in_ok-settle.ensures.noted in
+    let noted : HasIdleBut S later c.as_slice.result.now c.list_came.new.listed =
+    subst (λ (read : List RecordId). HasIdleBut S later read c.list_came.new.listed) (sym c.as_slice.ensures)
+    (idle_noted S cached later c.args.mapping.now.id c.settle.new.idle.items names c.list_came.new.listed stay
+    c.in_ok-note_without_rights.ensures.kept c.in_ok-note_without_rights.ensures.noted
+    (c.in_ok-list_came.ensures.idle stood.before cached stood.is stood.stood.idle_there)) in
+    on_both c.list_idle.result (λ listed idle. record { shows = c.in_ok-settle.ensures.shows; listed_there = listed; idle_there = idle later noted })
+    c.list_idle.ensures.listed c.list_idle.ensures.idle

@@ -9,8 +9,8 @@ use Rattle.mapdb_rights.proofs.Settling.Pendings.{none_pending}
 use Rattle.mapdb_rights.proofs.Rights.Settled.{settled_is_exact}
 use Rattle.mapdb_rights.proofs.index.settling.settle.Goals as goal
 
-pub returns : goal.returns
-returns c =
+pub returns-clause-shows : goal.returns-clause-shows
+returns-clause-shows c =
     let S : State = state_of_facts c.args.facts.now in
     let none : length c.stale.stack.items ≡ 0 = grind (arith, common_steps) in
     let rights : AreRights S (cached_in c.stale.changes.own.entries) = settled_is_exact S (cached_in c.stale.changes.own.entries)

@@ -32,7 +32,7 @@ returns-clause-settled c =
     (λ other r held parent page inside from before.
     let named = c.requires.listed.named other r held in
     let own : S.record_at r.id ≡ Some r = ap S.record_at named ∙ held in
-    elim (c.requires.listed.places r own).by_parent [
+    elim (c.requires.listed.sources r own).by_parent [
       | inl revoked ↦ inl revoked
       | inr listed ↦ inr (subst (λ (o : RecordId). IsPending c.push_children.new.stack.items o page) named
           (pushed r own (c.requires.listed.formed r own) listed parent page inside from before))
@@ -70,4 +70,11 @@ follow_live-requires-clause-before c = record {
 }
 
 pub returns-clause-live : goal.returns-clause-live
-returns-clause-live c = on_any c.push_children.result c.in_ok-follow_live.ensures
+returns-clause-live c = on_any c.push_children.result c.in_ok-follow_live.ensures.live
+
+pub returns-clause-noted : goal.returns-clause-noted
+returns-clause-noted c =
+    on_any c.push_children.result
+    (c.in_ok-follow_live.ensures.noted (cached_in c.args.changes.now.own.entries) c.has_some-had_some.ensures.none
+    (λ other page apart. c.in_ok-write.ensures.cached other page
+    ∙ cond-false (covers c.args.run.id c.args.run.first c.args.run.end other page) _ _ (and_left _ _ apart)))

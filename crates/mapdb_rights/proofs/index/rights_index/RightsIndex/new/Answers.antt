@@ -31,11 +31,12 @@ returns c = record {
     listed_there = record {
       named = λ id r held. absurd (none_some r held);
       formed = λ r held. absurd (none_some r held);
-      places = λ r held. absurd (none_some r held);
+      sources = λ r held. absurd (none_some r held);
       aligned = none_aligned c.new-2.result c.new-2.ensures.no_place;
       held = λ e has. absurd (true≢false (sym has ∙ c.new-2.ensures.no_place e));
       by_name = c.new-2.ensures.no_record;
     };
+    idle_there = λ r held. absurd (none_some r held);
   };
 }
   where

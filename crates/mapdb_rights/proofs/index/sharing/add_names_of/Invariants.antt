@@ -1,14 +1,18 @@
 use Rattle.std.proofs.Common.{◌≡◌, true, length}
 use Rattle.std.specs.Prelude.{◌⊎◌}
+use Rattle.mapdb_facts.specs.declared.names.RecordId.{RecordId}
 use Rattle.mapdb_lists.specs.declared.own_places.OwnPlace.{OwnPlace}
 use Rattle.mapdb_lists.specs.OwnPlaces.{ahead, own_list, own_meets, stands}
 use Rattle.mapdb_rights.specs.Meeting.{is_named}
-use Rattle.mapdb_rights.proofs.index.sharing.names_of.Given as goal
+use Rattle.mapdb_rights.proofs.index.sharing.add_names_of.Given as goal
 
 -- each place that meets the pages comes later, or its name is there
 abbrev pub invariant-places : goal.invariant-places
-invariant-places l = (p : OwnPlace) → stands (own_list l.own) p ≡ true → own_meets p l.first l.end ≡ true
-    → (stands (ahead l.own l.sweep) p ≡ true) ⊎ (is_named l.names.items p.id ≡ true)
+invariant-places l = record {
+  kept : (id : RecordId) → is_named l.fn.names.items id ≡ true → is_named l.names.items id ≡ true;
+  named : (p : OwnPlace) → stands (own_list l.own) p ≡ true → own_meets p l.first l.end ≡ true
+      → (stands (ahead l.own l.sweep) p ≡ true) ⊎ (is_named l.names.items p.id ≡ true);
+}
 
 abbrev pub decreases-places : goal.decreases-places
 decreases-places l = length (ahead l.own l.sweep)

@@ -1,0 +1,16 @@
+use Rattle.std.proofs.Common.{◌≡◌, List, inl, inr, refl, subst, sym, true}
+use Rattle.mapdb_facts.specs.declared.names.RecordId.{RecordId}
+use Rattle.mapdb_rights.specs.Meeting.{is_named}
+use Rattle.mapdb_rights.proofs.Lists.NamedRecords.{named_front, named_last}
+use Rattle.mapdb_rights.proofs.index.idle_places.note_without_rights.Goals as goal
+
+pub returns-then-has_some-clause-noted : goal.returns-then-has_some-clause-noted
+returns-then-has_some-clause-noted c = inl (c.has_some.ensures.some c.if-has_some.true)
+
+pub returns-clause-noted : goal.returns-clause-noted
+returns-clause-noted c =
+    inr (subst (λ (names : List RecordId). is_named names c.args.mapping.now.id ≡ true) (sym c.in_ok-push.ensures.ok) (named_last c.args.mapping.now.id c.args.idle.now.items c.args.mapping.now.id refl))
+
+pub returns-clause-kept : goal.returns-clause-kept
+returns-clause-kept c id has =
+    subst (λ (names : List RecordId). is_named names id ≡ true) (sym c.in_ok-push.ensures.ok) (named_front id c.args.idle.now.items _ has)

@@ -1,0 +1,74 @@
+//! The places of the records without rights: an Unmap goes over them too, since something may be
+//! left to revoke there.
+
+ghost use Rattle.std.specs.Prelude.{◌≡◌, true, OnOk, Some};
+ghost use Rattle.mapdb_facts.specs.Facts.{state_of_facts};
+ghost use Rattle.mapdb_facts.specs.declared.names.RecordId.{RecordId};
+ghost use Rattle.mapdb_facts.specs.declared.operations.Record.{Record};
+ghost use Rattle.mapdb_lists.specs.Changes.{Cached, cached_in};
+ghost use Rattle.mapdb_lists.specs.Listing.{is_listed};
+ghost use Rattle.mapdb_lists.specs.declared.places.Listed.{Listed};
+ghost use Rattle.mapdb_rights.specs.Following.{AreListed};
+ghost use Rattle.mapdb_rights.specs.HeldPlaces.{place_of};
+ghost use Rattle.mapdb_rights.specs.IdlePlaces.{HasIdle, HasIdleBut, IsNoted};
+ghost use Rattle.mapdb_rights.specs.Meeting.{is_named};
+
+use super::listing::{list_place, place_of, record_under};
+use super::runs::has_some;
+use mapdb_facts::{Facts, Record, RecordId};
+use mapdb_lists::{AllChanges, Places, cached_at};
+use smallvec::SmallVec;
+use std::alloc::AllocError;
+
+/// Notes the name of a record, unless it has a right at some page. An error where memory ran out.
+pub(crate) fn note_without_rights(
+    idle: &mut SmallVec<RecordId, 4>,
+    changes: &AllChanges,
+    mapping: &Record,
+) -> Result<(), AllocError>
+    ensures kept { OnOk result ((id : RecordId) → is_named idle.old.items id ≡ true
+        → is_named idle.new.items id ≡ true) }
+    ensures noted { OnOk result (IsNoted (cached_in changes.now.own.entries) idle.new.items
+        mapping.now.id) }
+{
+    let page = mapping.place.first_page();
+    let rights = cached_at(changes, mapping.id, page);
+    if has_some(changes, mapping.id, page, rights) {
+        return Ok(());
+    }
+    idle.push(mapping.id)?;
+    Ok(())
+}
+
+/// Lists the place of the record that is held under a name, where there is one.
+fn list_under(listed: &mut Places, facts: &Facts, id: RecordId) -> Result<(), AllocError>
+    requires { AreListed (state_of_facts facts.now) listed.old }
+    ensures listed { OnOk result (AreListed (state_of_facts facts.now) listed.new) }
+    ensures kept { OnOk result ((e : Listed) → is_listed listed.old e ≡ true
+        → is_listed listed.new e ≡ true) }
+    ensures there { OnOk result ((r : Record) → (state_of_facts facts.now).record_at id ≡ Some r
+        → is_listed listed.new (place_of r) ≡ true) }
+{
+    match record_under(listed, facts, id) {
+        Some(mapping) => list_place(listed, place_of(&mapping)),
+        None => Ok(()),
+    }
+}
+
+/// Lists the places of the records whose names are noted. An error where memory ran out.
+pub(crate) fn list_idle(
+    listed: &mut Places,
+    facts: &Facts,
+    names: &[RecordId],
+) -> Result<(), AllocError>
+    requires { AreListed (state_of_facts facts.now) listed.old }
+    ensures listed { OnOk result (AreListed (state_of_facts facts.now) listed.new) }
+    ensures idle { OnOk result ((cached : Cached)
+        → HasIdleBut (state_of_facts facts.now) cached names.now listed.old
+        → HasIdle (state_of_facts facts.now) cached listed.new) }
+{
+    for id in names {
+        list_under(listed, facts, *id)?;
+    }
+    Ok(())
+}
