@@ -1,21 +1,23 @@
 -- What one call does to a cluster, with memory as far as its reply tells.
 use Rattle.std.specs.Prelude.{◌≡◌, ◌⊎◌, ℕ, ◌<◌, true, List, [], ◌∷◌, ◌++◌, length, take, slice_get}
-use Rattle.std.specs.Prelude.{Some, Result, Ok, Err, IsOk}
+use Rattle.std.specs.Prelude.{IfSome, Some, Result, Ok, Err, IsOk}
 use Rattle.mapdb_facts.specs.declared.operations.Op.{Op}
 use Rattle.mapdb_replica.specs.Memory.{EndsAfter, Enough, Memory, ends, issue_fault_memory}
 use Rattle.mapdb_replica.specs.Memory.{take_fault_memory}
 use Rattle.mapdb_replica.specs.Merging.{Merges}
 use Rattle.mapdb_replica.specs.Replica.{Log, first_number}
-use Rattle.mapdb_replica.specs.Taking.{Takes, take_outcome}
+use Rattle.mapdb_replica.specs.Taking.{HasMore, Takes, take_outcome}
 use Rattle.mapdb_replica.specs.Telling.{TellsResult}
 use Rattle.mapdb_replica.specs.declared.commands.Applied.{Applied}
 use Rattle.mapdb_replica.specs.declared.commands.Applied.TheVariants as applied
 use Rattle.mapdb_replica.specs.declared.faults.GiveFault.{GiveFault}
 use Rattle.mapdb_replica.specs.declared.faults.GiveFault.TheVariants as give
 use Rattle.mapdb_replica.specs.declared.faults.IssueFault.{IssueFault}
+use Rattle.mapdb_replica.specs.declared.faults.TakeFault.{TakeFault}
 use Rattle.mapdb_cluster.specs.Net.{Done, Net, event_done, taken_reply}
 use Rattle.mapdb_cluster.specs.Run.{after, all_done}
 use Rattle.mapdb_cluster.specs.declared.events.Event.{Event}
+use Rattle.mapdb_cluster.specs.declared.events.Event.TheVariants.{Deliver, Issue, Join, Send}
 use Rattle.mapdb_cluster.specs.declared.events.Refusal.{Refusal}
 use Rattle.mapdb_cluster.specs.declared.events.Refusal.TheVariants as refusal
 use Rattle.mapdb_cluster.specs.declared.events.Reply.{Reply}
@@ -54,11 +56,33 @@ abbrev pub LastsForPart : Memory → Done → Type 0
 LastsForPart Enough all = Unit {0}
 LastsForPart (EndsAfter count) all = IsPartOfEvent count all.reply all.took
 
+-- where a fault tells that memory ended as a processor's copy took a batch, something of it behind
+-- what stands is new still to the copy
+abbrev pub HasMoreAt : Net → ℕ → List Op → TakeFault → Type 0
+HasMoreAt net at batch fault =
+    IfSome (slice_get net.copies at) (λ copy. HasMore copy.ops batch fault)
+
+-- .. of the batch that an event gave a copy: a message, or all that another copy held
+abbrev pub HasMoreOf : Net → Event → Net → TakeFault → Type 0
+HasMoreOf old (Issue at command) new fault = Unit {0}
+HasMoreOf old (Send from first end) new fault = Unit {0}
+HasMoreOf old (Deliver message to) new fault =
+    IfSome (slice_get old.messages message) (λ batch. HasMoreAt new to batch fault)
+HasMoreOf old (Join into from) new fault =
+    IfSome (slice_get old.copies from) (λ other. HasMoreAt new into other.ops fault)
+
+-- of the reply to a batch that was not taken, or not all of it: what is said of the fault
+abbrev pub IfNotTaken : Reply → (TakeFault → Type 0) → Type 0
+IfNotTaken (Refused (refusal.Take fault)) Holds = Holds fault
+IfNotTaken reply Holds = Unit {0}
+
 -- A step: the reply and the net are those of the event, with memory as far as the reply tells.
+-- Where memory ends, that is before the last operation, and before one of a batch that is new then.
 pub record Steps (old : Net) (event : Event) (reply : Reply) (new : Net) : Type 0 where
   pub replied : (event_done old event (memory_told reply)).reply ≡ reply
   pub done : (event_done old event (memory_told reply)).net ≡ new
   pub part : LastsForPart (memory_told reply) (event_done old event Enough)
+  pub more : IfNotTaken reply (HasMoreOf old event new)
 
 -- What stands after a run that ran out of memory: the first so many events, and the next one not
 -- at all or in a part.

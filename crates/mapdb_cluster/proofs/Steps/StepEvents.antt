@@ -1,6 +1,6 @@
 -- Each kind of event, as a step of the net.
 use Rattle.std.proofs.Common.{◌≡◌, ℕ, Bool, true, false, Err, Ok, Result, Some, refl, sym, subst, ap, ◌∙◌, List, length}
-use Rattle.std.specs.Prelude.{◌≢◌, ◌==◌, IsOk, Option, None, slice_get, if◌then◌else◌}
+use Rattle.std.specs.Prelude.{◌≢◌, ◌==◌, IfSome, IsOk, Option, None, slice_get, if◌then◌else◌}
 use Rattle.std.proofs.lemmas.Bool.{eq-eqb, eqb-true, false≢true}
 use Rattle.mapdb_facts.specs.declared.operations.Op.{Op}
 use Rattle.mapdb_replica.specs.Commands.{Replies, command_outcome}
@@ -10,13 +10,14 @@ use Rattle.mapdb_replica.specs.Replica.{Log}
 use Rattle.mapdb_replica.specs.declared.commands.Command.{Command}
 use Rattle.mapdb_replica.specs.declared.faults.GiveFault.{GiveFault}
 use Rattle.mapdb_replica.specs.declared.faults.GiveFault.TheVariants as give
+use Rattle.mapdb_replica.specs.declared.faults.TakeFault.{TakeFault}
 use Rattle.mapdb_cluster.specs.Net.{Done, Net, at_copy, at_processor, delivered, event_done, issue_done, joined, send_done, taken_at, with_copy, with_message}
-use Rattle.mapdb_cluster.specs.Steps.{Steps, TakesWith, applied_reply}
+use Rattle.mapdb_cluster.specs.Steps.{HasMoreAt, HasMoreOf, Steps, TakesWith, applied_reply}
 use Rattle.mapdb_cluster.specs.declared.events.Event.TheVariants.{Deliver, Issue, Join, Send}
 use Rattle.mapdb_cluster.specs.declared.events.Refusal.TheVariants as refusal
 use Rattle.mapdb_cluster.specs.declared.events.Reply.{Reply}
 use Rattle.mapdb_cluster.specs.declared.events.Reply.TheVariants.{Refused, Sent, Taken}
-use Rattle.mapdb_cluster.proofs.Steps.StepTells.{Tells, command_tells, refused_tells, take_tells, tells_step}
+use Rattle.mapdb_cluster.proofs.Steps.StepTells.{Tells, command_tells, more_tells, none_given, refused_tells, take_tells, tells_step}
 
 module _ (net : Net) where
   -- at a processor that is there
@@ -26,44 +27,47 @@ module _ (net : Net) where
   -- a processor that is not there
   pub issue_nowhere : (at : ℕ) (command : Command) → slice_get net.copies at ≡ None → Steps net (Issue at command) (Refused refusal.NoProcessor) net
   issue_nowhere at command gone =
-      tells_step net (Issue at command) _ (Refused refusal.NoProcessor) net (λ memory. ap (λ (o : Option Log). at_copy net o (λ copy. issue_done net at copy command memory (command_outcome copy command))) gone) (refused_tells net refusal.NoProcessor)
+      tells_step net (Issue at command) _ (Refused refusal.NoProcessor) net (λ memory. ap (λ (o : Option Log). at_copy net o (λ copy. issue_done net at copy command memory (command_outcome copy command))) gone) (refused_tells net refusal.NoProcessor) tt
 
   pub send_nowhere : (from first end : ℕ) → slice_get net.copies from ≡ None → Steps net (Send from first end) (Refused refusal.NoProcessor) net
   send_nowhere from first end gone =
-      tells_step net (Send from first end) _ (Refused refusal.NoProcessor) net (λ memory. ap (λ (o : Option Log). at_copy net o (λ copy. send_done net memory (given copy.ops first end))) gone) (refused_tells net refusal.NoProcessor)
+      tells_step net (Send from first end) _ (Refused refusal.NoProcessor) net (λ memory. ap (λ (o : Option Log). at_copy net o (λ copy. send_done net memory (given copy.ops first end))) gone) (refused_tells net refusal.NoProcessor) tt
 
   pub deliver_nowhere : (message to : ℕ) → slice_get net.copies to ≡ None → Steps net (Deliver message to) (Refused refusal.NoProcessor) net
   deliver_nowhere message to gone =
-      tells_step net (Deliver message to) _ (Refused refusal.NoProcessor) net (λ memory. ap (λ (o : Option Log). at_copy net o (λ copy. delivered net memory to (slice_get net.messages message) copy)) gone) (refused_tells net refusal.NoProcessor)
+      tells_step net (Deliver message to) _ (Refused refusal.NoProcessor) net (λ memory. ap (λ (o : Option Log). at_copy net o (λ copy. delivered net memory to (slice_get net.messages message) copy)) gone) (refused_tells net refusal.NoProcessor) tt
 
   pub join_into_nowhere : (into from : ℕ) → slice_get net.copies into ≡ None → Steps net (Join into from) (Refused refusal.NoProcessor) net
   join_into_nowhere into from gone =
-      tells_step net (Join into from) _ (Refused refusal.NoProcessor) net (λ memory. ap (λ (o : Option Log). at_copy net o (λ copy. at_processor net from (λ other. joined net memory into from copy other))) gone) (refused_tells net refusal.NoProcessor)
+      tells_step net (Join into from) _ (Refused refusal.NoProcessor) net (λ memory. ap (λ (o : Option Log). at_copy net o (λ copy. at_processor net from (λ other. joined net memory into from copy other))) gone) (refused_tells net refusal.NoProcessor) tt
 
   pub join_from_nowhere : (into from : ℕ) (copy : Log) → slice_get net.copies into ≡ Some copy → slice_get net.copies from ≡ None → Steps net (Join into from) (Refused refusal.NoProcessor) net
   join_from_nowhere into from copy there gone =
       tells_step net (Join into from) _ (Refused refusal.NoProcessor) net
       (λ memory. at_there into copy (λ c. at_processor net from (λ other. joined net memory into from c other)) there ∙ ap (λ (o : Option Log). at_copy net o (λ other. joined net memory into from copy other)) gone)
-      (refused_tells net refusal.NoProcessor)
+      (refused_tells net refusal.NoProcessor) tt
 
   pub issue_step : (at : ℕ) (copy new : Log) (command : Command) (reply : Reply) → slice_get net.copies at ≡ Some copy → Replies applied_reply command copy reply new → Steps net (Issue at command) reply (with_copy net at new)
   issue_step at copy new command reply there is =
       tells_step net (Issue at command) (λ memory. issue_done net at copy command memory (command_outcome copy command)) reply (with_copy net at new)
       (λ memory. at_there at copy (λ c. issue_done net at c command memory (command_outcome c command)) there)
-      (command_tells net at copy new command there reply is)
+      (command_tells net at copy new command there reply is) (none_given reply)
 
   pub deliver_missing : (message to : ℕ) (copy : Log) → slice_get net.copies to ≡ Some copy → slice_get net.messages message ≡ None → Steps net (Deliver message to) (Refused refusal.NoMessage) net
   deliver_missing message to copy there gone =
       tells_step net (Deliver message to) _ (Refused refusal.NoMessage) net
       (λ memory. at_there to copy (λ c. delivered net memory to (slice_get net.messages message) c) there ∙ ap (λ (o : Option (List Op)). delivered net memory to o copy) gone)
-      (refused_tells net refusal.NoMessage)
+      (refused_tells net refusal.NoMessage) tt
 
   pub deliver_step : (message to : ℕ) (copy new : Log) (batch : List Op) (reply : Reply) → slice_get net.copies to ≡ Some copy → slice_get net.messages message ≡ Some batch → TakesWith batch copy reply new
       → Steps net (Deliver message to) reply (with_copy net to new)
   deliver_step message to copy new batch reply there sent is =
       tells_step net (Deliver message to) (λ memory. taken_at net memory to batch copy) reply (with_copy net to new)
       (λ memory. at_there to copy (λ c. delivered net memory to (slice_get net.messages message) c) there ∙ ap (λ (o : Option (List Op)). delivered net memory to o copy) sent)
-      (take_tells net to copy new batch there reply is)
+      (take_tells net to copy new batch there reply is) (more_tells net to copy new batch there (HasMoreOf net (Deliver message to) (with_copy net to new)) reply given_batch is)
+    where
+      given_batch : (fault : TakeFault) → HasMoreAt (with_copy net to new) to batch fault → HasMoreOf net (Deliver message to) (with_copy net to new) fault
+      given_batch fault more = subst (λ (o : Option (List Op)). IfSome o (λ (ops : List Op). HasMoreAt (with_copy net to new) to ops fault)) (sym sent) more
 
   joined_where : (memory : Memory) (into from : ℕ) (copy other : Log) (b : Bool) → (into == from) ≡ b
       → joined net memory into from copy other ≡ (if b then record { reply = Taken 0; net = net; taker = into; took = copy.ops } else taken_at net memory into other.ops copy)
@@ -80,7 +84,10 @@ module _ (net : Net) where
       (λ memory. at_there into copy (λ c. at_processor net from (λ o. joined net memory into from c o)) there
       ∙ at_there from other (λ o. joined net memory into from copy o) here
       ∙ joined_where memory into from copy other false (apart_false into from apart (into == from) refl))
-      (take_tells net into copy new other.ops there reply is)
+      (take_tells net into copy new other.ops there reply is) (more_tells net into copy new other.ops there (HasMoreOf net (Join into from) (with_copy net into new)) reply given_other is)
+    where
+      given_other : (fault : TakeFault) → HasMoreAt (with_copy net into new) into other.ops fault → HasMoreOf net (Join into from) (with_copy net into new) fault
+      given_other fault more = subst (λ (o : Option Log). IfSome o (λ (log : Log). HasMoreAt (with_copy net into new) into log.ops fault)) (sym here) more
 
   pub join_itself : (into from : ℕ) (copy : Log) → slice_get net.copies into ≡ Some copy → into ≡ from → Steps net (Join into from) (Taken 0) net
   join_itself into from copy there same =
@@ -88,7 +95,7 @@ module _ (net : Net) where
       (λ memory. at_there into copy (λ c. at_processor net from (λ o. joined net memory into from c o)) there
       ∙ at_there from copy (λ o. joined net memory into from copy o) (subst (λ n. slice_get net.copies n ≡ Some copy) same there)
       ∙ joined_where memory into from copy copy true (eq-eqb into from same))
-      (record { replied = refl; left = refl; part = tt })
+      (record { replied = refl; left = refl; part = tt }) tt
 
   -- sending
   module _ (from first end : ℕ) (copy : Log) (there : slice_get net.copies from ≡ Some copy) where
@@ -99,16 +106,16 @@ module _ (net : Net) where
     send_step ops count is counted =
         subst (λ n. Steps net (Send from first end) (Sent (length net.messages) n) (with_message net ops)) (sym counted)
         (tells_step net (Send from first end) (λ memory. send_done net memory (Ok ops)) (Sent (length net.messages) (length ops)) (with_message net ops)
-        (λ memory. sent_at memory ∙ ap (λ (o : Result (List Op) GiveFault). send_done net memory o) is) (record { replied = refl; left = refl; part = tt }))
+        (λ memory. sent_at memory ∙ ap (λ (o : Result (List Op) GiveFault). send_done net memory o) is) (record { replied = refl; left = refl; part = tt }) tt)
 
     pub send_marks : given copy.ops first end ≡ Err give.BadMark → Steps net (Send from first end) (Refused refusal.Mark) net
     send_marks is =
         tells_step net (Send from first end) (λ memory. send_done net memory (Err give.BadMark)) (Refused refusal.Mark) net
-        (λ memory. sent_at memory ∙ ap (λ (o : Result (List Op) GiveFault). send_done net memory o) is) (record { replied = refl; left = refl; part = tt })
+        (λ memory. sent_at memory ∙ ap (λ (o : Result (List Op) GiveFault). send_done net memory o) is) (record { replied = refl; left = refl; part = tt }) tt
 
     wanting : (o : Result (List Op) GiveFault) → IsOk o → Tells (λ memory. send_done net memory o) (Refused refusal.Memory) net
     wanting (Ok ops) is = record { replied = refl; left = refl; part = tt }
     wanting (Err fault) is = absurd (false≢true is)
 
     pub send_wants : IsOk (given copy.ops first end) → Steps net (Send from first end) (Refused refusal.Memory) net
-    send_wants is = tells_step net (Send from first end) (λ memory. send_done net memory (given copy.ops first end)) (Refused refusal.Memory) net sent_at (wanting (given copy.ops first end) is)
+    send_wants is = tells_step net (Send from first end) (λ memory. send_done net memory (given copy.ops first end)) (Refused refusal.Memory) net sent_at (wanting (given copy.ops first end) is) tt

@@ -1,12 +1,12 @@
 -- One event at one copy, told in the net.
 use Rattle.std.proofs.Common.{◌≡◌, ℕ, zero, suc, ◌<◌, Err, Ok, Result, Some, refl, sym, subst, ap, ◌∙◌, List, [], ◌∷◌, length, take}
-use Rattle.std.specs.Prelude.{IfOk, OnOk, slice_get, slice_set}
+use Rattle.std.specs.Prelude.{IfErr, IfOk, IfSome, OnOk, Option, slice_get, slice_set}
 use Rattle.mapdb_facts.specs.declared.names.RecordId.{RecordId}
 use Rattle.mapdb_facts.specs.declared.operations.Op.{Op}
 use Rattle.mapdb_replica.specs.Commands.{IsAnswer, Replies, command_outcome}
 use Rattle.mapdb_replica.specs.Memory.{EndsAfter, EndsWithin, Enough, Memory, take_memory}
 use Rattle.mapdb_replica.specs.Replica.{Log, first_number, with_issued}
-use Rattle.mapdb_replica.specs.Taking.{take_refusal_told, take_answer, take_left, take_outcome}
+use Rattle.mapdb_replica.specs.Taking.{HasMore, take_refusal_told, take_answer, take_left, take_outcome}
 use Rattle.mapdb_replica.specs.declared.commands.Applied.{Applied}
 use Rattle.mapdb_replica.specs.declared.commands.Applied.TheVariants as applied
 use Rattle.mapdb_replica.specs.declared.commands.Command.{Command}
@@ -16,12 +16,13 @@ use Rattle.mapdb_replica.specs.declared.faults.IssueFault.TheVariants as issue
 use Rattle.mapdb_replica.specs.declared.faults.TakeFault.{TakeFault}
 use Rattle.mapdb_replica.proofs.Calls.CallCases.{IssueCases, issue_cases}
 use Rattle.mapdb_cluster.specs.Net.{Done, Net, event_done, issue_done, issue_reply, refused, take_done, taken_reply, with_copy}
-use Rattle.mapdb_cluster.specs.Steps.{LastsForPart, Steps, TakesWith, applied_reply, memory_told}
+use Rattle.mapdb_cluster.specs.Steps.{HasMoreAt, HasMoreOf, IfNotTaken, LastsForPart, Steps, TakesWith, applied_reply, memory_told}
 use Rattle.mapdb_cluster.specs.declared.events.Event.{Event}
 use Rattle.mapdb_cluster.specs.declared.events.Refusal.{Refusal}
 use Rattle.mapdb_cluster.specs.declared.events.Refusal.TheVariants as refusal
 use Rattle.mapdb_cluster.specs.declared.events.Reply.{Reply}
-use Rattle.mapdb_cluster.specs.declared.events.Reply.TheVariants.{Issued, Refused, Revoked}
+use Rattle.mapdb_cluster.specs.declared.events.Reply.TheVariants.{Ended, Issued, Refused, Revoked, Sent, Taken}
+use Rattle.mapdb_cluster.proofs.Steps.Slots.{set_here}
 
 -- What an event does, told by its reply.
 pub record Tells (done : Memory → Done) (reply : Reply) (new : Net) : Type 0 where
@@ -30,11 +31,12 @@ pub record Tells (done : Memory → Done) (reply : Reply) (new : Net) : Type 0 w
   pub part : LastsForPart (memory_told reply) (done Enough)
 
 -- an event that does so is a step
-pub tells_step : (net : Net) (event : Event) (done : Memory → Done) (reply : Reply) (new : Net) → ((memory : Memory) → event_done net event memory ≡ done memory) → Tells done reply new → Steps net event reply new
-tells_step net event done reply new is tells = record {
+pub tells_step : (net : Net) (event : Event) (done : Memory → Done) (reply : Reply) (new : Net) → ((memory : Memory) → event_done net event memory ≡ done memory) → Tells done reply new → IfNotTaken reply (HasMoreOf net event new) → Steps net event reply new
+tells_step net event done reply new is tells more = record {
   replied = ap (λ (d : Done). d.reply) (is (memory_told reply)) ∙ tells.replied;
   done = ap (λ (d : Done). d.net) (is (memory_told reply)) ∙ tells.left;
   part = subst (LastsForPart (memory_told reply)) (sym (is Enough)) tells.part;
+  more = more;
 }
 
 same_some : (a b : Log) → Some a ≡ Some b → b ≡ a
@@ -50,6 +52,20 @@ pub with_same : (net : Net) (at : ℕ) (copy new : Log) → slice_get net.copies
 with_same net at copy new there same =
     let copies : slice_set net.copies at new ≡ net.copies = ap (slice_set net.copies at) same ∙ set_same net.copies at copy there in
     λ i. record { copies = copies i; messages = net.messages }
+
+-- an event that gives no copy a batch
+pub none_given : (reply : Reply) → IfNotTaken reply (λ fault. Unit {0})
+none_given (Issued first count) = tt
+none_given (Revoked count) = tt
+none_given Ended = tt
+none_given (Taken count) = tt
+none_given (Sent message count) = tt
+none_given (Refused refusal.NoProcessor) = tt
+none_given (Refused refusal.NoMessage) = tt
+none_given (Refused refusal.Mark) = tt
+none_given (Refused (refusal.Issue fault)) = tt
+none_given (Refused (refusal.Take fault)) = tt
+none_given (Refused refusal.Memory) = tt
 
 -- a refusal, in which nothing is done
 refused_part : (memory : Memory) (net : Net) (why : Refusal) → LastsForPart memory (refused net why)
@@ -144,3 +160,14 @@ module _ (net : Net) (at : ℕ) (copy new : Log) (batch : List Op) (there : slic
   take_tells reply is =
       subst (λ (r : Reply). Tells (λ memory. take_done net at copy batch memory (take_outcome copy.ops batch)) r (with_copy net at new)) (sym is.2)
       (took_tells (take_outcome copy.ops batch) (take_memory is.0) is.0 (reply_memory is.0) is.1.0 is.1.1 is.1.2)
+
+  more_told : (Holds : TakeFault → Type 0) (result : Result ℕ TakeFault) → ((fault : TakeFault) → HasMore new.ops batch fault → Holds fault) → IfErr result (HasMore new.ops batch) → IfNotTaken (taken_reply result) Holds
+  more_told Holds (Ok count) holds more = tt
+  more_told Holds (Err fault) holds more = holds fault more
+
+  -- where memory ended, something of the batch is new still to the copy in the net
+  pub more_tells : (Holds : TakeFault → Type 0) (reply : Reply) → ((fault : TakeFault) → HasMoreAt (with_copy net at new) at batch fault → Holds fault) → TakesWith batch copy reply new → IfNotTaken reply Holds
+  more_tells Holds reply holds is =
+      let here : (fault : TakeFault) → HasMore new.ops batch fault → Holds fault =
+      λ fault more. holds fault (subst (λ (o : Option Log). IfSome o (λ (log : Log). HasMore log.ops batch fault)) (sym (set_here net.copies at copy new there)) more) in
+      subst (λ (r : Reply). IfNotTaken r Holds) (sym is.2) (more_told Holds is.0 here is.1.3)
