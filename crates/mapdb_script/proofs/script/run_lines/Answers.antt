@@ -1,9 +1,12 @@
 use Rattle.std.proofs.Common.{◌++◌, ◌∙◌, [], refl, ap, ℕ, List, arith, inl, inr}
 use Rattle.std.proofs.lemmas.Result.{err_from_is_err_and}
+use Rattle.mapdb_script.specs.Script.{output_of}
 use Rattle.mapdb_script.specs.States.{script_state}
 use Rattle.mapdb_lines.specs.Reading.{ahead_of, line_of}
 use Rattle.mapdb_lines.specs.Blocks.{waiting}
 use Rattle.mapdb_lines.proofs.BlockLemmas.{passes-none, passes-on, passes-then}
+use Rattle.mapdb_lines.proofs.LineCounts.{stops_at_once}
+use Rattle.mapdb_lines.proofs.ReadAhead.{few_ahead}
 use Rattle.mapdb_script.proofs.RunLemmas.{begins, tells_unread, tells_unwritten, tells_nothing, tells_stopped, tells_last, next_line, turn_lines, turn_few, falls_by_line, Consumes-grow, Consumes-same, Consumes-none, still_works}
 use Rattle.mapdb_script.proofs.script.run_lines.Goals as goal
 
@@ -15,18 +18,23 @@ loop-engine-init g c = record {
   writes = c.requires.writer_works;
 }
 
+pub returns-in_err-reading-clause-told : goal.returns-in_err-reading-clause-told
+returns-in_err-reading-clause-told g c =
+    let p = err_from_is_err_and c.from_residual.result c.from_residual.ensures.1 in
+    ([], [], Consumes-none (g.R.Source.left c.args.reader.now) [] refl, passes-none _ _ _ refl, rw (p.1, p.2) (((output_of []).text, refl), stops_at_once))
+
 pub returns-in_err-progress-clause-told : goal.returns-in_err-progress-clause-told
 returns-in_err-progress-clause-told g c =
     let p = err_from_is_err_and c.from_residual-in_err-progress.result c.from_residual-in_err-progress.ensures.1 in
     let so_far = c.loop-engine.invariant.so_far in
     let passed = passes-on (g.W.Sink.written c.args.writer.now) (g.W.Sink.written c.loop-engine.writer) (g.W.Sink.written c.flush_before_read.new.writer) (waiting c.args.block.now) (waiting c.loop-engine.block) (waiting c.flush_before_read.new.block) so_far.1 so_far.3 c.in_ok-flush_before_read.ensures.told in
-    let read = c.advance.ensures.bytes in
+    let read = c.in_err-progress.ensures.bytes in
     let bytes : List ℕ = ahead_of c.loop-engine.reading ++ read.0 in (
       so_far.0 ++ bytes,
       so_far.1,
       Consumes-grow _ _ _ so_far.0 (ahead_of c.loop-engine.reading) read.0 so_far.2 read.1,
       passed,
-      rw (p.1, p.2) (tells_unread c.in_err-progress.field-0.0 so_far.0 so_far.1 bytes (script_state c.loop-engine.engine) _ so_far.4),
+      rw (p.1, p.2) (tells_unread c.in_err-progress.field-0.0 so_far.0 so_far.1 bytes (script_state c.loop-engine.engine) _ so_far.4 c.loop-engine.invariant.few read.3),
     )
 
 pub returns-in-Nothing-clause-told : goal.returns-in-Nothing-clause-told
@@ -40,7 +48,7 @@ returns-in-Nothing-clause-told g c =
       so_far.1,
       Consumes-grow _ _ _ so_far.0 (ahead_of c.loop-engine.reading) read.0 so_far.2 read.1,
       passed,
-      rw c.summary.ensures (tells_nothing so_far.0 so_far.1 bytes (script_state c.loop-engine.engine) _ so_far.4 reads.0 (c.in_ok-progress.ensures.ended (inr c.in-Nothing.is), c.in_ok-progress.ensures.over (inr c.in-Nothing.is))),
+      rw c.summary.ensures (tells_nothing so_far.0 so_far.1 bytes (script_state c.loop-engine.engine) _ so_far.4 c.loop-engine.invariant.few reads.0 (c.in_ok-progress.ensures.ended (inr c.in-Nothing.is), c.in_ok-progress.ensures.over (inr c.in-Nothing.is))),
     )
 
 pub returns-in_err-respond-clause-told : goal.returns-in_err-respond-clause-told
@@ -56,7 +64,7 @@ returns-in_err-respond-clause-told g c =
       Consumes-grow _ _ _ so_far.0 (ahead_of c.loop-engine.reading) read.0 so_far.2 read.1,
       passes-then (g.W.Sink.written c.args.writer.now) (g.W.Sink.written c.flush_before_read.new.writer) (g.W.Sink.written c.respond.new.writer) (waiting c.args.block.now) (waiting c.flush_before_read.new.block) (waiting c.respond.new.block) so_far.1 told.0 passed told.1,
       rw (p.1, p.2) (tells_stopped (Unit {0}) c.in_err-respond.field-0.0 so_far.0 so_far.1 bytes (line_of c.advance.new.self) (ahead_of c.advance.new.self) told.0 c.in_ok-progress.progress (script_state c.loop-engine.engine) (script_state c.respond.new.engine) _
-          so_far.4 read.2.0 read.2.1 c.in_default.not-Nothing (λ e. (c.in_ok-progress.ensures.ended (inl e), c.in_ok-progress.ensures.over (inl e))) told.2),
+          so_far.4 c.loop-engine.invariant.few read.2.0 read.2.1 c.in_default.not-Nothing (λ e. (c.in_ok-progress.ensures.ended (inl e), c.in_ok-progress.ensures.over (inl e))) told.2),
     )
 
 pub returns-in-Last-clause-told : goal.returns-in-Last-clause-told
@@ -72,7 +80,7 @@ returns-in-Last-clause-told g c =
       Consumes-grow _ _ _ so_far.0 (ahead_of c.loop-engine.reading) read.0 so_far.2 read.1,
       passes-then (g.W.Sink.written c.args.writer.now) (g.W.Sink.written c.flush_before_read.new.writer) (g.W.Sink.written c.respond.new.writer) (waiting c.args.block.now) (waiting c.flush_before_read.new.block) (waiting c.respond.new.block) so_far.1 told.0 passed told.1,
       rw c.summary-in-Last.ensures (tells_last so_far.0 so_far.1 bytes (line_of c.advance.new.self) (ahead_of c.advance.new.self) told.0 (script_state c.loop-engine.engine) (script_state c.respond.new.engine) _
-          so_far.4 reads (c.in_ok-progress.ensures.ended (inl c.in-Last.is), c.in_ok-progress.ensures.over (inl c.in-Last.is)) told.2),
+          so_far.4 c.loop-engine.invariant.few reads (c.in_ok-progress.ensures.ended (inl c.in-Last.is), c.in_ok-progress.ensures.over (inl c.in-Last.is)) told.2),
     )
 
 pub loop-engine-smaller : goal.loop-engine-smaller
@@ -114,5 +122,5 @@ returns-in_err-flush_before_read-clause-told g c =
       so_far.1,
       so_far.2,
       passed,
-      rw (p.1, p.2) (tells_unwritten c.in_err-flush_before_read.field-0.0 so_far.0 so_far.1 (ahead_of c.loop-engine.reading) (script_state c.loop-engine.engine) _ so_far.4 c.in_err-flush_before_read.ensures.write.0),
+      rw (p.1, p.2) (tells_unwritten c.in_err-flush_before_read.field-0.0 so_far.0 so_far.1 (ahead_of c.loop-engine.reading) (script_state c.loop-engine.engine) _ so_far.4 c.loop-engine.invariant.few (let few = few_ahead c.loop-engine.reading in omega arith) c.in_err-flush_before_read.ensures.write.0),
     )
