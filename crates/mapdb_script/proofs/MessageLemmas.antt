@@ -30,7 +30,7 @@ use Rattle.mapdb_script.specs.declared.turn_fault.TurnFault.{TurnFault}
 use Rattle.mapdb_script.proofs.AnsweringLemmas.{at_there, refused_told}
 
 -- where a copy is, there is a cluster
-some_copy : (copies : List Log) (at : ℕ) (copy : Log) → slice_get copies at ≡ Some copy → nat_lt 0 (length copies) ≡ true
+pub some_copy : (copies : List Log) (at : ℕ) (copy : Log) → slice_get copies at ≡ Some copy → nat_lt 0 (length copies) ≡ true
 some_copy copies at copy there =
     let within = slice_get_within copies at copy there in
     lt-ltb 0 (length copies) (omega (arith, within))
