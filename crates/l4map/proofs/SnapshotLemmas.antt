@@ -10,7 +10,7 @@ use Rattle.std.proofs.lemmas.Bool.Decides.{nat_tests}
 use Rattle.mapdb_lines.specs.Limits.{line_limit, read_ahead}
 use Rattle.mapdb_picture.specs.declared.faults.LoadFault.{LoadFault}
 use Rattle.mapdb_picture.specs.declared.faults.LoadFault.TheVariants.{Memory}
-use Rattle.l4map.specs.Snapshots.{IsAll, IsFront, IsUnread, TellsSnapshot, answer_told, tell_out_of_memory}
+use Rattle.l4map.specs.Snapshots.{IsAll, IsFront, IsLittle, IsUnread, TellsSnapshot, answer_told, tell_out_of_memory}
 use Rattle.l4map.specs.declared.snapshots.Asked.{Asked}
 use Rattle.l4map.specs.declared.snapshots.TellFault.{TellFault}
 use Rattle.l4map.specs.declared.snapshots.TellFault.TheVariants.{Load, Read, TooLong, Write}
@@ -37,7 +37,7 @@ consumes_zero (Some p) (Some q) (Some r) x piece n zero h k =
 
 -- what an input that was not all read tells
 pub unread_told : (asked : Asked) (why : TellFault) (input : List ℕ) (Over : Type 0) → IsUnread why input → TellsSnapshot asked (Err why) input [] Over
-unread_told asked Read input Over h = refl
+unread_told asked Read input Over h = (refl, h)
 unread_told asked Write input Over h = absurd h
 unread_told asked TooLong input Over h = (refl, h)
 unread_told asked (Load fault) input Over h = (refl, inl h)
@@ -52,16 +52,16 @@ front_told asked (Err TooLong) input whole front Over over is written = absurd w
 front_told asked (Err (Load fault)) input whole front Over over is written = absurd written
 
 -- what a failed read tells
-pub told_read : {A : Type 0} (P : A → Type 0) (result : Result A TellFault) (input : List ℕ) → IsErr result → IsErrAnd result (λ (why : TellFault). why ≡ Read)
+pub told_read : {A : Type 0} (P : A → Type 0) (result : Result A TellFault) (input : List ℕ) → IsLittle input → IsErr result → IsErrAnd result (λ (why : TellFault). why ≡ Read)
     → IfOk result P × IfErr result (λ (why : TellFault). IsUnread why input)
-told_read P (Ok a) input h k = absurd (false≢true h)
-told_read P (Err why) input h k = (tt, subst (λ (x : TellFault). IsUnread x input) (sym k) tt)
+told_read P (Ok a) input little h k = absurd (false≢true h)
+told_read P (Err why) input little h k = (tt, subst (λ (x : TellFault). IsUnread x input) (sym k) little)
 
 -- what running out of memory tells
-pub told_memory : {A : Type 0} (P : A → Type 0) (result : Result A TellFault) (input : List ℕ) → IsErr result → IsErrAnd result (λ (why : TellFault). why ≡ tell_out_of_memory)
+pub told_memory : {A : Type 0} (P : A → Type 0) (result : Result A TellFault) (input : List ℕ) → IsLittle input → IsErr result → IsErrAnd result (λ (why : TellFault). why ≡ tell_out_of_memory)
     → IfOk result P × IfErr result (λ (why : TellFault). IsUnread why input)
-told_memory P (Ok a) input h k = absurd (false≢true h)
-told_memory P (Err why) input h k = (tt, subst (λ (x : TellFault). IsUnread x input) (sym k) refl)
+told_memory P (Ok a) input little h k = absurd (false≢true h)
+told_memory P (Err why) input little h k = (tt, subst (λ (x : TellFault). IsUnread x input) (sym k) (refl, little))
 
 or_true : (b : Bool) → (b || true) ≡ true
 or_true b = grind (arith, nat_tests)
@@ -85,10 +85,13 @@ grows_little input piece new count is short few =
     let taken = length-take count piece in
     omega arith
 
+little_all : (input : List ℕ) (Over : Type 0) → IsAll input Over → IsLittle input
+little_all input Over over = let short = over.1 in omega arith
+
 -- what is told where nothing is told of a text
 pub fault_told : (asked : Asked) (result : Result (Unit {0}) TellFault) (input : List ℕ) (fault : LoadFault) (Over : Type 0) → IsErr result → IsErrAnd result (λ (why : TellFault). why ≡ Load fault)
     → IsAll input Over → (fault ≡ Memory) ⊎ (answer_told asked input ≡ Err fault) → TellsSnapshot asked result input [] Over
 fault_told asked (Ok done) input fault Over h k over told = absurd (false≢true h)
 fault_told asked (Err why) input fault Over h k over told =
     subst (λ (x : TellFault). TellsSnapshot asked (Err x) input [] Over) (sym k)
-    (refl, elim told [ inl memory ↦ inl memory | inr is ↦ inr (over, is) ])
+    (refl, elim told [ inl memory ↦ inl (memory, little_all input Over over) | inr is ↦ inr (over, is) ])

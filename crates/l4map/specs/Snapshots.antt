@@ -28,17 +28,20 @@ answer_told (Page space page) bytes = explained bytes space page
 abbrev pub tell_out_of_memory : TellFault
 tell_out_of_memory = Load Memory
 
--- More was read than a line of a script may have, but by no more than what is asked of a reader at
--- once.
+-- No more was read than a line of a script may have and what is asked of a reader at once.
+abbrev pub IsLittle : List ℕ → Type 0
+IsLittle input = length input ≤ line_limit + read_ahead
+
+-- more was read than a line of a script may have
 abbrev pub IsTooLong : List ℕ → Type 0
-IsTooLong input = (line_limit < length input) × (length input ≤ line_limit + read_ahead)
+IsTooLong input = (line_limit < length input) × IsLittle input
 
 -- why not all was read, of which this was read
 abbrev pub IsUnread : TellFault → List ℕ → Type 0
-IsUnread Read input = Unit {0}
+IsUnread Read input = IsLittle input
 IsUnread Write input = ⊥
 IsUnread TooLong input = IsTooLong input
-IsUnread (Load fault) input = fault ≡ Memory
+IsUnread (Load fault) input = (fault ≡ Memory) × IsLittle input
 
 -- What is written of a text: all of it, or a prefix of it where the writer failed.
 abbrev pub IsFront : Result (Unit {0}) TellFault → List ℕ → List ℕ → Type 0
@@ -57,12 +60,13 @@ IsAll input Over = Over × (length input ≤ line_limit)
 abbrev pub TellsSnapshot : Asked → Result (Unit {0}) TellFault → List ℕ → List ℕ → Type 0 → Type 0
 TellsSnapshot asked (Ok done) input text Over = IsAll input Over
     × (answer_told asked input ≡ Ok text)
-TellsSnapshot asked (Err Read) input text Over = text ≡ []
+TellsSnapshot asked (Err Read) input text Over = (text ≡ []) × IsLittle input
 TellsSnapshot asked (Err Write) input text Over = IsAll input Over
     × ((whole : List ℕ) × (answer_told asked input ≡ Ok whole) × BeginsWith whole text)
 TellsSnapshot asked (Err TooLong) input text Over = (text ≡ []) × IsTooLong input
 TellsSnapshot asked (Err (Load fault)) input text Over =
-    (text ≡ []) × ((fault ≡ Memory) ⊎ (IsAll input Over × (answer_told asked input ≡ Err fault)))
+    (text ≡ []) × (((fault ≡ Memory) × IsLittle input)
+    ⊎ (IsAll input Over × (answer_told asked input ≡ Err fault)))
 
 -- The reader or the writer is blamed exactly where that one has failed.
 abbrev pub BlamesSnapshot : Result (Unit {0}) TellFault → Bool → Bool → Type 0

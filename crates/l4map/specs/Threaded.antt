@@ -8,12 +8,12 @@ use Rattle.mapdb_exchange.specs.declared.faults.RunFault.{RunFault}
 use Rattle.mapdb_exchange.specs.declared.faults.RunFault.TheVariants as run
 use Rattle.mapdb_exchange.specs.declared.reports.Part.{Part}
 use Rattle.mapdb_lines.specs.Fronts.{BeginsWith}
-use Rattle.mapdb_lines.specs.Reading.{EndsNear}
+use Rattle.mapdb_lines.specs.Reading.{StopsNear}
 use Rattle.mapdb_script.specs.declared.faults.ScriptFault.TheVariants as script
 use Rattle.mapdb_script.specs.Answering.{reply_line}
 use Rattle.mapdb_script.specs.Reply.{same_text}
 use Rattle.mapdb_script.specs.Script.{fault_line}
-use Rattle.mapdb_script.specs.Threading.{scripts_of}
+use Rattle.mapdb_script.specs.Threading.{IsFaulty, scripts_of}
 use Rattle.l4map.specs.Statuses.{memory_message, message_of, status_of}
 use Rattle.l4map.specs.declared.threaded.ThreadsFault.{ThreadsFault}
 use Rattle.l4map.specs.declared.threaded.ThreadsFault.TheVariants.{Run, Script}
@@ -38,9 +38,9 @@ IsReport capacity input text =
     × IsCount (length scripts) capacity
     × AreParts scripts parts × HoldSame parts × (text ≡ report_text parts)
 
--- the line that tells the fault of the input's first faulty line
-abbrev pub IsFaultLine : List ℕ → List ℕ → Type 0
-IsFaultLine input text = (number : ℕ) × (f : _) × (scripts_of input ≡ Err (number, f))
+-- the line that tells the fault of the input's first faulty line; `Over` says that the reader is over
+abbrev pub IsFaultLine : List ℕ → List ℕ → Type 0 → Type 0
+IsFaultLine input text Over = (number : ℕ) × (f : _) × IsFaulty number f input Over
     × (text ≡ fault_line number f)
 
 -- the faults of a reader, of a writer, and of memory that ran out
@@ -63,25 +63,27 @@ IsTextWritten (Err (Script script.Read)) whole front = ⊥
 IsTextWritten (Err (Script (script.Line number f))) whole front = ⊥
 IsTextWritten (Err (Run why)) whole front = ⊥
 
--- What was written for an input of which this was read; `Over` says that the reader is over. At a
--- faulty line the reader is over, or no further bytes would change the answer; no line was read
--- further than it must be, and little was read behind that line. Nothing is written where the
--- exchange gives no report; the count is at fault exactly where there are none or too many scripts.
-abbrev pub TellsThreads : ℕ → Result (Unit {0}) ThreadsFault → List ℕ → List ℕ → Type 0 → Type 0
-TellsThreads capacity (Ok done) input text Over = Over × IsReport capacity input text
-TellsThreads capacity (Err (Script (script.Line number f))) input text Over =
-    (scripts_of input ≡ Err (number, f)) × (text ≡ fault_line number f)
-    × (Over ⊎ ((more : List ℕ) → scripts_of (input ++ more) ≡ scripts_of input))
-    × EndsNear number input
-TellsThreads capacity (Err (Script script.Read)) input text Over = text ≡ []
-TellsThreads capacity (Err (Script script.Write)) input text Over =
-    (whole : List ℕ) × (IsReport capacity input whole ⊎ IsFaultLine input whole)
+-- What was written for an input of which this was read; `Over` says that the reader is over. Nothing
+-- is written where the exchange gives no report; the count is at fault exactly where there are none
+-- or too many scripts.
+abbrev pub AnswersThreads : ℕ → Result (Unit {0}) ThreadsFault → List ℕ → List ℕ → Type 0 → Type 0
+AnswersThreads capacity (Ok done) input text Over = Over × IsReport capacity input text
+AnswersThreads capacity (Err (Script (script.Line number f))) input text Over =
+    IsFaulty number f input Over × (text ≡ fault_line number f)
+AnswersThreads capacity (Err (Script script.Read)) input text Over = text ≡ []
+AnswersThreads capacity (Err (Script script.Write)) input text Over =
+    (whole : List ℕ) × ((Over × IsReport capacity input whole) ⊎ IsFaultLine input whole Over)
     × BeginsWith whole text
-TellsThreads capacity (Err (Script script.Memory)) input text Over = text ≡ []
-TellsThreads capacity (Err (Run why)) input text Over =
+AnswersThreads capacity (Err (Script script.Memory)) input text Over = text ≡ []
+AnswersThreads capacity (Err (Run why)) input text Over =
     Over × ((scripts : List (List Command)) × (scripts_of input ≡ Ok scripts)
     × (why ≡ run.BadCount ↔ (IsCount (length scripts) capacity → ⊥)))
     × (text ≡ [])
+
+-- The same; and however it ends, little more was read than what a script may have.
+abbrev pub TellsThreads : ℕ → Result (Unit {0}) ThreadsFault → List ℕ → List ℕ → Type 0 → Type 0
+TellsThreads capacity result input text Over = AnswersThreads capacity result input text Over
+    × StopsNear input
 
 -- The reader or the writer is blamed exactly where that one has failed.
 abbrev pub BlamesThreads : Result (Unit {0}) ThreadsFault → Bool → Bool → Type 0

@@ -16,7 +16,7 @@ pieces-init g c = record {
 
 pub returns-in_err-count-clause-read : goal.returns-in_err-count-clause-read
 returns-in_err-count-clause-read g c =
-    let told = told_read _ c.from_residual-in_err-count.result c.pieces.input.items c.from_residual-in_err-count.ensures.0 c.from_residual-in_err-count.ensures.1 in (
+    let told = told_read _ c.from_residual-in_err-count.result c.pieces.input.items c.pieces.invariant.near c.from_residual-in_err-count.ensures.0 c.from_residual-in_err-count.ensures.1 in (
       c.pieces.input.items,
       consumes_kept (g.R.Source.left c.args.reader.now) (g.R.Source.left c.pieces.reader) (g.R.Source.left c.read.new.self) c.pieces.input.items c.pieces.invariant.consumed c.in_err-count.ensures.bytes,
       told.0,
@@ -64,7 +64,11 @@ pieces-preserved g c =
 pub returns-in_err-extend_from_slice-clause-read : goal.returns-in_err-extend_from_slice-clause-read
 returns-in_err-extend_from_slice-clause-read g c =
     let input : List ℕ = c.pieces.input.items ++ take c.in_ok-count.count c.read.new.piece in
-    let told = told_memory _ c.from_residual-in_err-extend_from_slice.result input c.from_residual-in_err-extend_from_slice.ensures.0 c.from_residual-in_err-extend_from_slice.ensures.1 in (
+    let auto : length c.read.new.piece ≡ length c.as_mut_slice.result.now = c.read.auto.piece in
+    let value : length c.as_mut_slice.result.now ≡ c.pieces.piece.len = c.as_mut_slice.ensures.len in
+    let room : c.pieces.piece.len ≡ 65536 = c.pieces.invariant.room in
+    let little = grows_little c.pieces.input.items c.read.new.piece input c.in_ok-count.count refl (omega arith) (omega (arith, auto, value, room, c.in_ok-count.ensures.bound)) in
+    let told = told_memory _ c.from_residual-in_err-extend_from_slice.result input little c.from_residual-in_err-extend_from_slice.ensures.0 c.from_residual-in_err-extend_from_slice.ensures.1 in (
       input,
       Consumes-append (g.R.Source.left c.args.reader.now) (g.R.Source.left c.pieces.reader) (g.R.Source.left c.read.new.self) c.pieces.input.items
           (take c.in_ok-count.count c.read.new.piece) c.pieces.invariant.consumed c.in_ok-count.ensures.bytes.0,

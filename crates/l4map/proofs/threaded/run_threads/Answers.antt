@@ -27,7 +27,7 @@ returns-in_err-write_fault-in-Err-Line-clause-told g c =
       wrote.0,
       read.1,
       wrote.1,
-      rw (p.1, p.2) (fault_told c.in_err-write_fault-in-Err-Line.field-0.0 read.0 wrote.0 c.in-Err-Line.number c.in-Err-Line.fault c.args.capacity over line.0 wrote.2),
+      rw (p.1, p.2) (fault_told c.in_err-write_fault-in-Err-Line.field-0.0 read.0 wrote.0 c.in-Err-Line.number c.in-Err-Line.fault c.args.capacity over line.0 wrote.2, line.1),
     )
 
 pub returns-in-Ok-run-clause-told : goal.returns-in-Ok-run-clause-told
@@ -40,7 +40,7 @@ returns-in-Ok-run-clause-told g c =
       wrote.0,
       read.1,
       wrote.1,
-      report_told c.write_report.result read.0 wrote.0 _ c.in-Ok-run.report.parts.items c.args.capacity _ read.2.0 read.2.1 few c.in-Ok-run.ensures.parts c.in-Ok-run.ensures.same written,
+      (report_told c.write_report.result read.0 wrote.0 _ c.in-Ok-run.report.parts.items c.args.capacity _ read.2.0.0 read.2.0.1 few c.in-Ok-run.ensures.parts c.in-Ok-run.ensures.same written, read.2.1),
     )
 
 pub returns-in-Err-run-clause-told : goal.returns-in-Err-run-clause-told
@@ -48,7 +48,7 @@ returns-in-Err-run-clause-told g c =
     let read = c.in-Ok.ensures.told in
     let why = c.in-Err-run.why in
     let exactly = subst (λ (n : ℕ). why ≡ BadCount ↔ (IsCount n c.args.capacity → ⊥)) (sym (length-map _ _)) c.in-Err-run.ensures.bad in
-    (read.0, [], read.1, appends-none _, (read.2.1, (_, read.2.0, exactly), refl))
+    (read.0, [], read.1, appends-none _, ((read.2.0.1, (_, read.2.0.0, exactly), refl), read.2.1))
 
 pub returns-in-Err-Line-clause-told : goal.returns-in-Err-Line-clause-told
 returns-in-Err-Line-clause-told c = search rules
