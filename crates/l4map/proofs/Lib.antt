@@ -1,4 +1,4 @@
 pub mod CommandLemmas
-pub mod JobLemmas
+pub mod EndLemmas
 pub mod ReportLemmas
 pub mod SnapshotLemmas
