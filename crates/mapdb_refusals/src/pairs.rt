@@ -1,6 +1,4 @@
-//! A copy as it is wanted, and one that is to become like it.
-//!
-//! A function that owns copies is long to prove for each of its ways out: so cases own one pair.
+//! A copy as it is wanted, and one that is to become like it: a case owns one pair of them.
 
 use crate::commands::copy_after;
 use mapdb_replica::{Command, Replica};
