@@ -51,8 +51,7 @@ static standing mapped_with(unsigned long refused)
 
 /*
  * Where the index can't have memory, no call fails for it: it lets go of what it has, answers are
- * as ever, and the next operation has it there again. It has as many blocks then as one that was
- * there all the time, or more: built anew, it lists the places of all records for an Unmap.
+ * as ever, and the next operation has it there again.
  */
 static void without_an_index(void)
 {
@@ -63,7 +62,7 @@ static void without_an_index(void)
         found = mapped_with(++refused);
         if (found.reached && found.status == MAPDB_DONE) {
             absent += found.blocks < whole.blocks;
-            CHECK(found.later >= whole.later, 1);
+            CHECK(found.later, whole.later);
         }
     } while (found.reached);
     CHECK(absent > 0, 1);

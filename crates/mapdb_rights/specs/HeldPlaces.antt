@@ -36,11 +36,6 @@ pub record HasSource (set : Places) (r : Record) : Type 0 where
   pub by_parent : is_listed set (source_of r) ≡ true
   pub place : IsPlace r.place
 
--- so do both, its source and its place
-pub record HasBoth (set : Places) (r : Record) : Type 0 where
-  pub source : HasSource set r
-  pub by_space : is_listed set (place_of r) ≡ true
-
 -- its source stands there, unless it is revoked, and its place is one
 pub record IsListed (S : State) (set : Places) (r : Record) : Type 0 where
   pub by_parent : IsRevoked S r ⊎ (is_listed set (source_of r) ≡ true)

@@ -22,7 +22,7 @@ use Rattle.mapdb_rights.specs.declared.index.stale.Stale.{Stale}
 use Rattle.mapdb_rights.specs.Caching.{AreRights, IsSettled, Unsettles}
 use Rattle.mapdb_rights.specs.CachedFrames.{AreFrames}
 use Rattle.mapdb_rights.specs.Following.{AreListed}
-use Rattle.mapdb_rights.specs.HeldPlaces.{AreOfHeld, HasBoth, HasSource, IsListed, place_of, source_of}
+use Rattle.mapdb_rights.specs.HeldPlaces.{AreOfHeld, HasSource, IsListed, place_of, source_of}
 use Rattle.mapdb_rights.specs.Pending.{AreSettledBut, IsPending}
 use Rattle.mapdb_rights.specs.PageRights.{is_record_into}
 use Rattle.std.proofs.lemmas.Bool.{false≢true}
@@ -89,9 +89,6 @@ listed_by_end S before space set is are = listed_alike S before (said (Closed sp
 -- what is listed stays so where more is
 pub source_on : (old new : Places) → ((e : Listed) → is_listed old e ≡ true → is_listed new e ≡ true) → (r : Record) → HasSource old r → HasSource new r
 source_on old new kept r l = record { by_parent = kept (source_of r) l.by_parent; place = l.place }
-
-pub listed_on : (old new : Places) → ((e : Listed) → is_listed old e ≡ true → is_listed new e ≡ true) → (r : Record) → HasBoth old r → HasBoth new r
-listed_on old new kept r l = record { source = source_on old new kept r l.source; by_space = kept (place_of r) l.by_space }
 
 -- where its source is listed, nothing is missing
 pub source_listed : (S : State) (set : Places) (r : Record) → HasSource set r → IsListed S set r

@@ -15,7 +15,7 @@ use Rattle.mapdb_lists.specs.Changes.{Cached}
 use Rattle.mapdb_lists.specs.Listing.{is_listed}
 use Rattle.mapdb_lists.specs.declared.places.Listed.{Listed}
 use Rattle.mapdb_lists.specs.declared.places.Places.{Places}
-use Rattle.mapdb_rights.specs.HeldPlaces.{HasBoth, place_of}
+use Rattle.mapdb_rights.specs.HeldPlaces.{place_of}
 use Rattle.mapdb_rights.specs.IdlePlaces.{HasIdle, HasIdleBut, HasPlace, IsNoted, StayNoted}
 use Rattle.mapdb_rights.specs.LivePlaces.{HasSome}
 use Rattle.mapdb_rights.specs.Meeting.{is_named}
@@ -43,10 +43,6 @@ idle_alike S before T cached set is none are r held = elim (are r (alike r.id �
 
     alike : (id : RecordId) → before.record_at id ≡ S.record_at id
     alike id = sym (first_alone (before.record_at id)) ∙ sym (ap (first_of (before.record_at id)) (none id)) ∙ sym (ap (λ (U : State). U.record_at id) is)
-
--- where all places are listed, so are these
-pub idle_of_all : (S : State) (cached : Cached) (set : Places) → ((r : Record) → Holds S r → HasBoth set r) → HasIdle S cached set
-idle_of_all S cached set all r held = inr (inr (all r held).by_space)
 
 -- where the rights that were cached are others, and each name that had some is noted or has some
 pub idle_but : (S : State) (before cached : Cached) (names : List RecordId) (set : Places) → StayNoted before [] cached names → HasIdle S before set → HasIdleBut S cached names set

@@ -9,7 +9,8 @@ ghost use Rattle.mapdb_rights.specs.HeldPlaces.{AreOfHeld};
 ghost use Rattle.mapdb_rights.specs.Following.{Stands};
 
 use super::children::push_children;
-use super::listing::list_records;
+use super::idle_places::{list_idle, note_all_without_rights};
+use super::listing::list_sources;
 use super::settling::settle;
 use super::stale::Stale;
 use super::unlisting::unlist_revoked;
@@ -34,7 +35,7 @@ pub fn settle_all(
     requires no_place { (e : Listed) → is_listed live.old e ≡ false }
     ensures { OnOk result (Stands changes.new listed.new live.new (state_of_facts facts.now)) }
 {
-    list_records(listed, facts)?;
+    list_sources(listed, facts)?;
     let mut stack = Vec::new(alloc);
     stack.push(Stale {
         id: RecordId::ROOT,
@@ -44,6 +45,8 @@ pub fn settle_all(
     push_children(&mut stack, listed, facts, RecordId::ROOT, 0, PAGE_LIMIT)?;
     let mut idle = SmallVec::new(alloc);
     settle(changes, live, &mut idle, &mut stack, listed, facts)?;
+    note_all_without_rights(&mut idle, changes, facts)?;
+    list_idle(listed, facts, idle.as_slice())?;
     unlist_revoked(listed, facts);
     Ok(())
 }

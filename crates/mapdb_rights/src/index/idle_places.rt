@@ -3,6 +3,7 @@
 
 ghost use Rattle.std.specs.Prelude.{◌≡◌, true, OnOk, Some};
 ghost use Rattle.mapdb_facts.specs.Facts.{state_of_facts};
+ghost use Rattle.mapdb_facts.specs.Looking.{Holds};
 ghost use Rattle.mapdb_facts.specs.declared.names.RecordId.{RecordId};
 ghost use Rattle.mapdb_facts.specs.declared.operations.Record.{Record};
 ghost use Rattle.mapdb_lists.specs.Changes.{Cached, cached_in};
@@ -37,6 +38,21 @@ pub(crate) fn note_without_rights(
         return Ok(());
     }
     idle.push(mapping.id)?;
+    Ok(())
+}
+
+/// Notes the names of all held records without rights. An error where memory ran out.
+pub(crate) fn note_all_without_rights(
+    idle: &mut SmallVec<RecordId, 4>,
+    changes: &AllChanges,
+    facts: &Facts,
+) -> Result<(), AllocError>
+    ensures { OnOk result ((r : Record) → Holds (state_of_facts facts.now) r
+        → IsNoted (cached_in changes.now.own.entries) idle.new.items r.id) }
+{
+    for mapping in facts.records() {
+        note_without_rights(idle, changes, &mapping)?;
+    }
     Ok(())
 }
 

@@ -16,7 +16,7 @@ ghost use Rattle.mapdb_lists.specs.Listing.{AllAligned, IsAligned, held_record, 
 ghost use Rattle.mapdb_lists.specs.Listing.{is_listed};
 ghost use Rattle.mapdb_lists.specs.declared.places.Listed.{Listed};
 ghost use Rattle.mapdb_rights.specs.Following.{AreListed, WereListed};
-ghost use Rattle.mapdb_rights.specs.HeldPlaces.{AreHeldOf, AreOfHeld, HasBoth, HasSource, place_of};
+ghost use Rattle.mapdb_rights.specs.HeldPlaces.{AreHeldOf, AreOfHeld, HasSource, place_of};
 ghost use Rattle.mapdb_rights.specs.HeldPlaces.{source_of};
 ghost use Rattle.mapdb_rights.specs.IdlePlaces.{HasIdle, HasIdleBut};
 ghost use Rattle.mapdb_rights.specs.Revoked.{IsRevoked};
@@ -88,25 +88,6 @@ fn list_source(listed: &mut Places, mapping: &Record) -> Result<(), AllocError>
     list_place(listed, source_of(mapping))
 }
 
-/// Lists a record: its source for its parent, and its place for its space. It is held under its
-/// name.
-fn list_record(listed: &mut Places, mapping: &Record) -> Result<(), AllocError>
-    requires formed { IsFormedRecord mapping.now }
-    requires aligned { AllAligned listed.old }
-    ensures aligned { OnOk result (AllAligned listed.new) }
-    ensures there { OnOk result (HasBoth listed.new mapping.now) }
-    ensures kept { OnOk result ((other : Listed) → is_listed listed.old other ≡ true
-        → is_listed listed.new other ≡ true) }
-    ensures no_more { OnOk result ((other : Listed) → is_listed listed.new other ≡ true
-        → (other ≡ place_of mapping.now) ⊎ (other ≡ source_of mapping.now)
-        ⊎ (is_listed listed.old other ≡ true)) }
-    ensures records { OnOk result ((id : RecordId) → held_record listed.new id
-        ≡ held_with listed.old mapping.now id) }
-{
-    list_source(listed, mapping)?;
-    list_place(listed, place_of(mapping))
-}
-
 /// Lists the source of the record that is held under a name, where there is one. Each held record
 /// stands under its own name and is well-formed.
 fn list_held(listed: &mut Places, facts: &Facts, id: RecordId) -> Result<(), AllocError>
@@ -169,17 +150,17 @@ pub(crate) fn list_came(
     Ok(())
 }
 
-/// Lists each held record, where none was held before.
-pub(crate) fn list_records(listed: &mut Places, facts: &Facts) -> Result<(), AllocError>
+/// Lists the source of each held record, where none was held before.
+pub(crate) fn list_sources(listed: &mut Places, facts: &Facts) -> Result<(), AllocError>
     requires aligned { AllAligned listed.old }
     requires held { AreOfHeld (state_of_facts facts.now) listed.old }
     requires none { (id : RecordId) → held_record listed.old id ≡ None }
     ensures listed { OnOk result (AreListed (state_of_facts facts.now) listed.new) }
     ensures all { OnOk result ((r : Record) → Holds (state_of_facts facts.now) r
-        → HasBoth listed.new r) }
+        → HasSource listed.new r) }
 {
     for mapping in facts.records() {
-        list_record(listed, &mapping)?;
+        list_source(listed, &mapping)?;
     }
     Ok(())
 }

@@ -5,10 +5,10 @@ use Rattle.mapdb_facts.specs.Records.{IsAmong}
 use Rattle.mapdb_facts.specs.State.{State}
 use Rattle.mapdb_facts.specs.declared.operations.Record.{Record}
 use Rattle.mapdb_lists.specs.Listing.{held_record}
-use Rattle.mapdb_rights.specs.HeldPlaces.{HasBoth}
-use Rattle.mapdb_rights.proofs.Settling.Followed.{listed_on, of_held_with}
+use Rattle.mapdb_rights.specs.HeldPlaces.{HasSource}
+use Rattle.mapdb_rights.proofs.Settling.Followed.{source_on, of_held_with}
 use Rattle.mapdb_rights.proofs.Settling.HeldRecords.{held_here, held_of_more, held_still}
-use Rattle.mapdb_rights.proofs.index.listing.list_records.Goals as goal
+use Rattle.mapdb_rights.proofs.index.listing.list_sources.Goals as goal
 
 pub loop-mapping-preserved : goal.loop-mapping-preserved
 loop-mapping-preserved c =
@@ -19,24 +19,24 @@ loop-mapping-preserved c =
     let left : (s : Record) → IsAmong s (r ∷ later) → Holds (state_of_facts c.args.facts.now) s = λ s among.
     c.loop-mapping.invariant.left s (subst (λ (rs : List Record). IsAmong s rs) (sym next) among) in
     record {
-      aligned = c.in_ok-list_record.ensures.aligned;
+      aligned = c.in_ok-list_source.ensures.aligned;
       left = λ s among. left s (inr among);
       places = λ s held. elim (c.loop-mapping.invariant.places s held) [
-        | inr listed ↦ inr (listed_on c.loop-mapping.listed c.list_record.new.listed c.in_ok-list_record.ensures.kept s listed)
+        | inr listed ↦ inr (source_on c.loop-mapping.listed c.list_source.new.listed c.in_ok-list_source.ensures.kept s listed)
         | inl among ↦ elim (subst (λ (rs : List Record). IsAmong s rs) next among) [
           | inr more ↦ inl more
-          | inl one ↦ inr (subst (λ (x : Record). HasBoth c.list_record.new.listed x) one c.in_ok-list_record.ensures.there)
+          | inl one ↦ inr (subst (λ (x : Record). HasSource c.list_source.new.listed x) one c.in_ok-list_source.ensures.there)
         ]
       ];
-      held = of_held_with (state_of_facts c.args.facts.now) c.loop-mapping.listed c.list_record.new.listed r (left r (inl refl))
-          c.in_ok-list_record.ensures.no_more c.loop-mapping.invariant.held;
-      sound = held_of_more S c.loop-mapping.listed c.list_record.new.listed r (left r (inl refl)) c.in_ok-list_record.ensures.records c.loop-mapping.invariant.sound;
+      held = of_held_with (state_of_facts c.args.facts.now) c.loop-mapping.listed c.list_source.new.listed r (left r (inl refl))
+          (λ e has. inr (c.in_ok-list_source.ensures.no_more e has)) c.loop-mapping.invariant.held;
+      sound = held_of_more S c.loop-mapping.listed c.list_source.new.listed r (left r (inl refl)) c.in_ok-list_source.ensures.records c.loop-mapping.invariant.sound;
       records = λ s held. elim (c.loop-mapping.invariant.records s held) [
-        | inr there ↦ inr (held_still S c.loop-mapping.listed c.list_record.new.listed r (left r (inl refl)) c.in_ok-list_record.ensures.records s held there)
+        | inr there ↦ inr (held_still S c.loop-mapping.listed c.list_source.new.listed r (left r (inl refl)) c.in_ok-list_source.ensures.records s held there)
         | inl among ↦ elim (subst (λ (rs : List Record). IsAmong s rs) next among) [
           | inr more ↦ inl more
-          | inl one ↦ inr (subst (λ (x : Record). held_record c.list_record.new.listed x.id ≡ Some x) one
-              (held_here S c.loop-mapping.listed c.list_record.new.listed r (left r (inl refl)) c.in_ok-list_record.ensures.records))
+          | inl one ↦ inr (subst (λ (x : Record). held_record c.list_source.new.listed x.id ≡ Some x) one
+              (held_here S c.loop-mapping.listed c.list_source.new.listed r (left r (inl refl)) c.in_ok-list_source.ensures.records))
         ]
       ];
     }
