@@ -1,3 +1,4 @@
+pub mod BatchRead
 pub mod ComingBack
 pub mod Fitting
 pub mod GivingTold

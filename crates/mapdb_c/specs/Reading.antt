@@ -1,5 +1,5 @@
 -- What a batch of C's says: each operation, up to the first that is none.
-use Rattle.std.specs.Prelude.{ℕ, ◌+◌, List, [], ◌∷◌, ◌++◌, Result, Ok, Err}
+use Rattle.std.specs.Prelude.{ℕ, ◌<◌, ◌+◌, List, [], ◌∷◌, ◌++◌, Result, Ok, Err}
 use Rattle.mapdb_facts.specs.declared.operations.Op.{Op}
 use Rattle.mapdb_c.specs.RawOperations.{operation_of}
 use Rattle.mapdb_c.specs.declared.operations.RawOperation.{RawOperation}
@@ -32,6 +32,13 @@ abbrev pub operations_from : ℕ → List RawOperation → Result (List Op) Unre
 operations_from place [] = Ok []
 operations_from place (raw ∷ rest) =
     read_before (operation_at place raw) (operations_from (place + 1) rest)
+
+-- an operation is read, so that there is something to keep
+abbrev pub KeepsSome : Result (List Op) Unread → Type 0
+KeepsSome (Ok []) = ⊥
+KeepsSome (Ok (op ∷ ops)) = Unit {0}
+KeepsSome (Err (Bad why place)) = 0 < place
+KeepsSome (Err Memory) = ⊥
 
 -- the others, behind those that were read
 abbrev pub read_behind : List Op → Result (List Op) Unread → Result (List Op) Unread

@@ -6,7 +6,7 @@ use Rattle.mapdb_replica.specs.Taking.{Takes, take_outcome}
 use Rattle.mapdb_replica.specs.declared.faults.TakeFault.{TakeFault}
 use Rattle.mapdb_replica.specs.declared.faults.TakeFault.TheVariants.{Bad, Clash, Full, Memory}
 use Rattle.mapdb_c.specs.FaultStatuses.{op_status}
-use Rattle.mapdb_c.specs.Reading.{operations_from, unread_status}
+use Rattle.mapdb_c.specs.Reading.{KeepsSome, operations_from, unread_status}
 use Rattle.mapdb_c.specs.declared.operations.RawOperation.{RawOperation}
 use Rattle.mapdb_c.specs.declared.reading.Unread.{Unread}
 use Rattle.mapdb_c.specs.declared.reading.Unread.TheVariants as unread
@@ -68,13 +68,14 @@ abbrev pub IsUnreadAs : Unread → Status → Taken → Log → Log → Type 0
 IsUnreadAs why told taken old new = (told ≡ unread_status why) × (taken ≡ unread_told why)
     × (new ≡ old)
 
--- What taking a batch of C's leaves and tells: the first operation that is none is told, before the
--- batch is looked at as a whole. To read them, memory may run out in place of all else.
+-- the batch is taken, or the first operation that is none is told, before the batch is looked at as
+-- a whole
 abbrev pub TakesRead : Result (List Op) Unread → Status → Taken → Log → Log → Type 0
 TakesRead (Err why) told taken old new = IsUnreadAs why told taken old new
-    ⊎ IsUnreadAs unread.Memory told taken old new
 TakesRead (Ok batch) told taken old new = TakesAs batch told taken old new
-    ⊎ IsUnreadAs unread.Memory told taken old new
 
+-- What taking a batch of C's leaves and tells. Memory may run out for what was read, in place of all
+-- else; where nothing is to be kept, it cannot.
 abbrev pub TakesGiven : List RawOperation → Status → Taken → Log → Log → Type 0
 TakesGiven raws told taken old new = TakesRead (operations_from 0 raws) told taken old new
+    ⊎ (KeepsSome (operations_from 0 raws) × IsUnreadAs unread.Memory told taken old new)

@@ -1,7 +1,7 @@
 //! Reading the operations of a batch of C's.
 
 ghost use Rattle.std.specs.Prelude.{◌≡◌, ◌⊎◌, Ok, Err, IfOk, IfErr};
-ghost use Rattle.mapdb_c.specs.Reading.{operation_at, operations_from, unread_status};
+ghost use Rattle.mapdb_c.specs.Reading.{KeepsSome, operation_at, operations_from, unread_status};
 ghost use Rattle.mapdb_c.specs.declared.reading.Unread.TheVariants.{Memory};
 
 use crate::operations::{RawOperation, operation_of};
@@ -52,10 +52,11 @@ fn operation_at(raw: &RawOperation, place: usize) -> Result<Op, Unread>
 }
 
 /// The operations that those of C's say, or the first that is none. Memory may run out in place
-/// of either.
+/// of either, but only where an operation was read.
 pub fn operations_of(alloc: Global, raws: &[RawOperation]) -> Result<Vec<Op>, Unread>
     ensures read { IfOk result (λ ops. operations_from 0 raws.now ≡ Ok ops.items) }
-    ensures err { IfErr result (λ unread. (unread ≡ Memory)
+    ensures err { IfErr result (λ unread. ((unread ≡ Memory)
+        × KeepsSome (operations_from 0 raws.now))
         ⊎ (operations_from 0 raws.now ≡ Err unread)) }
 {
     let mut ops = Vec::new(alloc);
