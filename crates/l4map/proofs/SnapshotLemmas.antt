@@ -1,5 +1,5 @@
 -- What was read and written of a snapshot, and what that tells.
-use Rattle.std.proofs.Common.{◌≡◌, ◌<◌, ◌≤◌, ◌+◌, ℕ, Bool, true, arith, length, length-append, List, [], ◌++◌, inl, inr, refl, sym, ap, subst, ◌∙◌, take}
+use Rattle.std.proofs.Common.{◌≡◌, ◌<◌, ◌≤◌, ◌+◌, ℕ, Bool, true, false, arith, length, length-append, List, [], ◌++◌, inl, inr, refl, sym, ap, subst, ◌∙◌, take}
 use Rattle.std.specs.Prelude.{◌⊎◌, Option, Some, None, Result, Ok, Err, IfOk, IfErr, ◌||◌, ◌&&◌, ◌==◌, nat_lt}
 use Rattle.std.specs.Result.{IsErr, IsErrAnd}
 use Rattle.std.specs.Io.KnownBytes.{Consumes, Keeps}
@@ -52,16 +52,34 @@ front_told asked (Err TooLong) input whole front Over over is written = absurd w
 front_told asked (Err (Load fault)) input whole front Over over is written = absurd written
 
 -- what a failed read tells
-pub told_read : {A : Type 0} (P : A → Type 0) (result : Result A TellFault) (input : List ℕ) → IsLittle input → IsErr result → IsErrAnd result (λ (why : TellFault). why ≡ Read)
+pub told_read : {A : Type 0} (P : A → Type 0) (result : Result A TellFault) (input : List ℕ) → length input ≤ line_limit → IsErr result → IsErrAnd result (λ (why : TellFault). why ≡ Read)
     → IfOk result P × IfErr result (λ (why : TellFault). IsUnread why input)
-told_read P (Ok a) input little h k = absurd (false≢true h)
-told_read P (Err why) input little h k = (tt, subst (λ (x : TellFault). IsUnread x input) (sym k) little)
+told_read P (Ok a) input short h k = absurd (false≢true h)
+told_read P (Err why) input short h k = (tt, subst (λ (x : TellFault). IsUnread x input) (sym k) short)
 
 -- what running out of memory tells
 pub told_memory : {A : Type 0} (P : A → Type 0) (result : Result A TellFault) (input : List ℕ) → IsLittle input → IsErr result → IsErrAnd result (λ (why : TellFault). why ≡ tell_out_of_memory)
     → IfOk result P × IfErr result (λ (why : TellFault). IsUnread why input)
 told_memory P (Ok a) input little h k = absurd (false≢true h)
 told_memory P (Err why) input little h k = (tt, subst (λ (x : TellFault). IsUnread x input) (sym k) (refl, little))
+
+or_false : (b : Bool) → (b || false) ≡ b
+or_false b = elim b as (λ t. (t || false) ≡ t) [ true ↦ refl | false ↦ refl ]
+
+-- a read that did not fail
+pub worked : (before now : Bool) → now ≡ (before || false) → before ≡ false → now ≡ true → ⊥
+worked before now is works failed = false≢true (sym (is ∙ ap (λ (b : Bool). b || false) works) ∙ failed)
+
+-- a read that failed shows no end
+pub shows_no_end : (start before now : Bool) → now ≡ (before || false) → before ≡ start → now ≡ start
+shows_no_end start before now is same = is ∙ or_false before ∙ same
+
+not_zero : (n : ℕ) → 0 < n → (n == 0) ≡ false
+not_zero n some = grind (arith, nat_tests)
+
+-- .. and neither does one that gave something
+pub went_on : (start before now : Bool) (count room : ℕ) → now ≡ (before || ((count == 0) && nat_lt 0 room)) → 0 < count → before ≡ start → now ≡ start
+went_on start before now count room is some same = shows_no_end start before now (is ∙ ap (λ (b : Bool). before || (b && nat_lt 0 room)) (not_zero count some)) same
 
 or_true : (b : Bool) → (b || true) ≡ true
 or_true b = grind (arith, nat_tests)

@@ -36,9 +36,10 @@ IsLittle input = length input ≤ line_limit + read_ahead
 abbrev pub IsTooLong : List ℕ → Type 0
 IsTooLong input = (line_limit < length input) × IsLittle input
 
--- why not all was read, of which this was read
+-- Why not all was read, of which this was read. The reader was asked for more, and failed, only
+-- where no more was there than a line of a script may have.
 abbrev pub IsUnread : TellFault → List ℕ → Type 0
-IsUnread Read input = IsLittle input
+IsUnread Read input = length input ≤ line_limit
 IsUnread Write input = ⊥
 IsUnread TooLong input = IsTooLong input
 IsUnread (Load fault) input = (fault ≡ Memory) × IsLittle input
@@ -60,7 +61,7 @@ IsAll input Over = Over × (length input ≤ line_limit)
 abbrev pub TellsSnapshot : Asked → Result (Unit {0}) TellFault → List ℕ → List ℕ → Type 0 → Type 0
 TellsSnapshot asked (Ok done) input text Over = IsAll input Over
     × (answer_told asked input ≡ Ok text)
-TellsSnapshot asked (Err Read) input text Over = (text ≡ []) × IsLittle input
+TellsSnapshot asked (Err Read) input text Over = (text ≡ []) × IsUnread Read input
 TellsSnapshot asked (Err Write) input text Over = IsAll input Over
     × ((whole : List ℕ) × (answer_told asked input ≡ Ok whole) × BeginsWith whole text)
 TellsSnapshot asked (Err TooLong) input text Over = (text ≡ []) × IsTooLong input

@@ -8,12 +8,12 @@ use Rattle.mapdb_exchange.specs.declared.faults.RunFault.{RunFault}
 use Rattle.mapdb_exchange.specs.declared.faults.RunFault.TheVariants as run
 use Rattle.mapdb_exchange.specs.declared.reports.Part.{Part}
 use Rattle.mapdb_lines.specs.Fronts.{BeginsWith}
-use Rattle.mapdb_lines.specs.Reading.{StopsNear}
+use Rattle.mapdb_lines.specs.Reading.{IsPart, StopsNear}
 use Rattle.mapdb_script.specs.declared.faults.ScriptFault.TheVariants as script
 use Rattle.mapdb_script.specs.Answering.{reply_line}
 use Rattle.mapdb_script.specs.Reply.{same_text}
 use Rattle.mapdb_script.specs.Script.{fault_line}
-use Rattle.mapdb_script.specs.Threading.{IsFaulty, scripts_of}
+use Rattle.mapdb_script.specs.Threading.{HasTaken, IsFaulty, scripts_of}
 use Rattle.l4map.specs.Statuses.{memory_message, message_of, status_of}
 use Rattle.l4map.specs.declared.threaded.ThreadsFault.{ThreadsFault}
 use Rattle.l4map.specs.declared.threaded.ThreadsFault.TheVariants.{Run, Script}
@@ -70,7 +70,8 @@ abbrev pub AnswersThreads : ℕ → Result (Unit {0}) ThreadsFault → List ℕ 
 AnswersThreads capacity (Ok done) input text Over = Over × IsReport capacity input text
 AnswersThreads capacity (Err (Script (script.Line number f))) input text Over =
     IsFaulty number f input Over × (text ≡ fault_line number f)
-AnswersThreads capacity (Err (Script script.Read)) input text Over = text ≡ []
+AnswersThreads capacity (Err (Script script.Read)) input text Over = HasTaken input IsPart
+    × (text ≡ [])
 AnswersThreads capacity (Err (Script script.Write)) input text Over =
     (whole : List ℕ) × ((Over × IsReport capacity input whole) ⊎ IsFaultLine input whole Over)
     × BeginsWith whole text

@@ -1,7 +1,7 @@
 //! What the program stands in: the words of its command line, where its messages go, and the status
 //! that it ends with.
 
-ghost use Rattle.std.specs.Prelude.{◌≡◌, Option, false, map, IfOk, IfErr};
+ghost use Rattle.std.specs.Prelude.{◌≡◌, Option, false, true, map, IfOk, IfErr};
 ghost use Rattle.std.specs.IoError.{error_kind};
 ghost use Rattle.l4map.specs.Commands.{job_in};
 ghost use Rattle.l4map.specs.Ends.{EndsFor, EndsUnread};
@@ -86,6 +86,7 @@ fn end_by<T: AllocGlobal + Threads + Wait + Sync, R: Source, W: Sink, E: Sink>(
           new = E.written errors.new;
           has_failed = E.has_failed errors.new;
         })) }
+    ensures once { R.has_failed reader.new ≡ true → R.has_ended reader.new ≡ R.has_ended reader.old }
 {
     let code = match words {
         Ok(words) => serve(rt, words.as_slice(), reader, writer, errors),
@@ -107,7 +108,7 @@ pub fn start<
 >(rt: &T, environment: &V, reader: &mut R, writer: &mut W, errors: &mut E) -> Status
     requires reader_works { R.has_failed reader.old ≡ false }
     requires writer_works { W.has_failed writer.old ≡ false }
-    ensures { (job : Option Job) × EndsFor job result.code
+    ensures ends { (job : Option Job) × EndsFor job result.code
         ((reader.new ≡ reader.old) × (writer.new ≡ writer.old))
         (record {
           old = R.left reader.old;
@@ -125,6 +126,7 @@ pub fn start<
           new = E.written errors.new;
           has_failed = E.has_failed errors.new;
         }) }
+    ensures once { R.has_failed reader.new ≡ true → R.has_ended reader.new ≡ R.has_ended reader.old }
 {
     end_by(rt, words_of(environment), reader, writer, errors)
 }

@@ -1,6 +1,6 @@
 //! The program's work, over any reader and writers.
 
-ghost use Rattle.std.specs.Prelude.{◌≡◌, ◌≢◌, ◌⊎◌, ℕ, List, Some, None, Result, false, map};
+ghost use Rattle.std.specs.Prelude.{◌≡◌, ◌≢◌, ◌⊎◌, ℕ, List, Some, None, Result, false, true, map};
 ghost use Rattle.std.specs.Io.KnownBytes.{Appends, Consumes};
 ghost use Rattle.std.specs.declared.io.ErrorKind.TheVariants as io_kind;
 ghost use Rattle.clap.specs.Words.{kind_of};
@@ -119,7 +119,7 @@ fn serve_script<R: Source, W: Sink, E: Sink>(
 ) -> u8
     requires reader_works { R.has_failed reader.old ≡ false }
     requires writer_works { W.has_failed writer.old ≡ false }
-    ensures { (outcome : Result Summary ScriptFault) × (input text : List ℕ)
+    ensures ends { (outcome : Result Summary ScriptFault) × (input text : List ℕ)
         × Consumes (R.left reader.old) (R.left reader.new) input
         × Appends (W.written writer.old) (W.written writer.new) text
         × TellsRun outcome input text (HasEnded (R.has_ended reader.new) (R.left reader.new))
@@ -127,6 +127,7 @@ fn serve_script<R: Source, W: Sink, E: Sink>(
         × (result ≡ status_of outcome)
         × IsTold (E.written errors.old) (E.written errors.new) (E.has_failed errors.new)
         (message_of outcome) }
+    ensures once { R.has_failed reader.new ≡ true → R.has_ended reader.new ≡ R.has_ended reader.old }
 {
     let outcome = run(alloc, reader, writer);
     tell(errors, message(&outcome));
@@ -144,7 +145,7 @@ fn serve_threads<T: Threads + Wait + Sync, R: Source, W: Sink, E: Sink>(
 ) -> u8
     requires reader_works { R.has_failed reader.old ≡ false }
     requires writer_works { W.has_failed writer.old ≡ false }
-    ensures { (outcome : Result (Unit {0}) ThreadsFault) × (input text : List ℕ)
+    ensures ends { (outcome : Result (Unit {0}) ThreadsFault) × (input text : List ℕ)
         × Consumes (R.left reader.old) (R.left reader.new) input
         × Appends (W.written writer.old) (W.written writer.new) text
         × TellsThreads capacity outcome input text
@@ -153,6 +154,7 @@ fn serve_threads<T: Threads + Wait + Sync, R: Source, W: Sink, E: Sink>(
         × (result ≡ threads_status outcome)
         × IsTold (E.written errors.old) (E.written errors.new) (E.has_failed errors.new)
         (threads_message outcome) }
+    ensures once { R.has_failed reader.new ≡ true → R.has_ended reader.new ≡ R.has_ended reader.old }
 {
     let outcome = run_threads(rt, alloc, capacity, reader, writer);
     tell(errors, threads_message(&outcome));
@@ -181,7 +183,7 @@ fn serve_snapshot<R: Source, W: Sink, E: Sink>(
 ) -> u8
     requires reader_works { R.has_failed reader.old ≡ false }
     requires writer_works { W.has_failed writer.old ≡ false }
-    ensures { (outcome : Result (Unit {0}) TellFault) × (input text : List ℕ)
+    ensures ends { (outcome : Result (Unit {0}) TellFault) × (input text : List ℕ)
         × Consumes (R.left reader.old) (R.left reader.new) input
         × Appends (W.written writer.old) (W.written writer.new) text
         × TellsSnapshot asked outcome input text
@@ -190,6 +192,7 @@ fn serve_snapshot<R: Source, W: Sink, E: Sink>(
         × (result ≡ snapshot_status outcome)
         × IsTold (E.written errors.old) (E.written errors.new) (E.has_failed errors.new)
         (snapshot_message outcome) }
+    ensures once { R.has_failed reader.new ≡ true → R.has_ended reader.new ≡ R.has_ended reader.old }
 {
     let outcome = tell_snapshot(alloc, asked, reader, writer);
     tell(errors, snapshot_message(&outcome));
@@ -259,6 +262,9 @@ pub fn serve<T: AllocGlobal + Threads + Wait + Sync, S: AsStr, R: Source, W: Sin
     ensures refused { job_in (map S.text words.now) ≡ None →
         (reader.new ≡ reader.old) × (writer.new ≡ writer.old)
         × Refuses result (E.written errors.old) (E.written errors.new) (E.has_failed errors.new) }
+
+    // A reader that has ended is not asked again.
+    ensures once { R.has_failed reader.new ≡ true → R.has_ended reader.new ≡ R.has_ended reader.old }
 {
     let alloc = rt.alloc();
     match job_of(alloc, words) {

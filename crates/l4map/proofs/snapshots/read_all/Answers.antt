@@ -2,7 +2,7 @@ use Rattle.std.proofs.Common.{◌≡◌, ◌∙◌, ◌++◌, ◌<◌, ℕ, List
 use Rattle.std.specs.Prelude.{Bool, ◌||◌}
 use Rattle.std.specs.Io.KnownBytes.{Consumes}
 use Rattle.mapdb_lines.proofs.LineLemmas.{Consumes-append}
-use Rattle.l4map.proofs.SnapshotLemmas.{consumes_kept, consumes_nothing, consumes_zero, ended_now, grows_little, piece_read, told_memory, told_read}
+use Rattle.l4map.proofs.SnapshotLemmas.{consumes_kept, consumes_nothing, consumes_zero, ended_now, grows_little, piece_read, shows_no_end, told_memory, told_read, went_on, worked}
 use Rattle.l4map.proofs.snapshots.read_all.Goals as goal
 
 pub pieces-init : goal.pieces-init
@@ -11,12 +11,13 @@ pieces-init g c = record {
       (consumes_nothing (g.R.Source.left c.args.reader.now));
   near = let none = ap length c.new-input.ensures.items in omega arith;
   works = c.requires;
+  once = refl;
   room = c.in_ok-piece.ensures.len;
 }
 
 pub returns-in_err-count-clause-read : goal.returns-in_err-count-clause-read
 returns-in_err-count-clause-read g c =
-    let told = told_read _ c.from_residual-in_err-count.result c.pieces.input.items c.pieces.invariant.near c.from_residual-in_err-count.ensures.0 c.from_residual-in_err-count.ensures.1 in (
+    let told = told_read _ c.from_residual-in_err-count.result c.pieces.input.items (omega arith) c.from_residual-in_err-count.ensures.0 c.from_residual-in_err-count.ensures.1 in (
       c.pieces.input.items,
       consumes_kept (g.R.Source.left c.args.reader.now) (g.R.Source.left c.pieces.reader) (g.R.Source.left c.read.new.self) c.pieces.input.items c.pieces.invariant.consumed c.in_err-count.ensures.bytes,
       told.0,
@@ -58,6 +59,8 @@ pieces-preserved g c =
       near = grows_little c.pieces.input.items c.deref.result.now c.extend_from_slice.new.self.items c.in_ok-count.count c.in_ok-extend_from_slice.ensures.items
           (omega arith) (omega (arith, auto, value, c.in_ok-count.ensures.bound));
       works = c.in_ok-count.ensures.failed ∙ ap (λ (b : Bool). b || false) c.pieces.invariant.works;
+      once = went_on (g.R.Source.has_ended c.args.reader.now) (g.R.Source.has_ended c.pieces.reader) (g.R.Source.has_ended c.read.new.self) c.in_ok-count.count (length c.read.new.piece)
+          c.in_ok-count.ensures.ended (omega (arith, c.if-count-eq0.false)) c.pieces.invariant.once;
       room = c.pieces.invariant.room;
     }
 
@@ -84,3 +87,18 @@ returns-clause-over g c = tt
 
 pub returns-clause-works : goal.returns-clause-works
 returns-clause-works g c = inr c.pieces.invariant.works
+
+pub returns-in_err-count-clause-once : goal.returns-in_err-count-clause-once
+returns-in_err-count-clause-once g c failed =
+    shows_no_end (g.R.Source.has_ended c.args.reader.now) (g.R.Source.has_ended c.pieces.reader) (g.R.Source.has_ended c.read.new.self) c.in_err-count.ensures.ended c.pieces.invariant.once
+
+pub returns-then-count-eq0-clause-once : goal.returns-then-count-eq0-clause-once
+returns-then-count-eq0-clause-once g c failed =
+    absurd (worked (g.R.Source.has_failed c.pieces.reader) (g.R.Source.has_failed c.read.new.self) c.in_ok-count.ensures.failed c.pieces.invariant.works failed)
+
+pub returns-in_err-extend_from_slice-clause-once : goal.returns-in_err-extend_from_slice-clause-once
+returns-in_err-extend_from_slice-clause-once g c failed =
+    absurd (worked (g.R.Source.has_failed c.pieces.reader) (g.R.Source.has_failed c.read.new.self) c.in_ok-count.ensures.failed c.pieces.invariant.works failed)
+
+pub returns-clause-once : goal.returns-clause-once
+returns-clause-once g c failed = c.pieces.invariant.once

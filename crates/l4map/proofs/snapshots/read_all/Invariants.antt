@@ -4,12 +4,13 @@ use Rattle.mapdb_lines.specs.Limits.{line_limit, read_ahead}
 use Rattle.l4map.proofs.snapshots.read_all.Given as goal
 
 -- what was read so far stands in the input, which is little longer than it may be, and no read has
--- failed
+-- failed or shown an end
 abbrev pub invariant-pieces : goal.invariant-pieces
 invariant-pieces g l = record {
   consumed : Consumes (g.R.Source.left l.fn.reader) (g.R.Source.left l.reader) l.input.items;
   near : length l.input.items ≤ line_limit + read_ahead;
   works : g.R.Source.has_failed l.reader ≡ false;
+  once : g.R.Source.has_ended l.reader ≡ g.R.Source.has_ended l.fn.reader;
   room : vec_len l.piece ≡ 65536;
 }
 

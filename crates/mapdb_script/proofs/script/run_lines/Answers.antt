@@ -1,13 +1,13 @@
 use Rattle.std.proofs.Common.{◌++◌, ◌∙◌, [], refl, ap, ℕ, List, arith, inl, inr}
+use Rattle.std.specs.Prelude.{Err}
 use Rattle.std.proofs.lemmas.Result.{err_from_is_err_and}
-use Rattle.mapdb_script.specs.Script.{output_of}
 use Rattle.mapdb_script.specs.States.{script_state}
 use Rattle.mapdb_lines.specs.Reading.{ahead_of, line_of}
 use Rattle.mapdb_lines.specs.Blocks.{waiting}
 use Rattle.mapdb_lines.proofs.BlockLemmas.{passes-none, passes-on, passes-then}
 use Rattle.mapdb_lines.proofs.LineCounts.{stops_at_once}
 use Rattle.mapdb_lines.proofs.ReadAhead.{few_ahead}
-use Rattle.mapdb_script.proofs.RunLemmas.{begins, tells_unread, tells_unwritten, tells_nothing, tells_stopped, tells_last, next_line, turn_lines, turn_few, falls_by_line, Consumes-grow, Consumes-same, Consumes-none, still_works}
+use Rattle.mapdb_script.proofs.RunLemmas.{begins, read_part, replied_nothing, tells_unread, tells_unwritten, tells_nothing, tells_stopped, tells_last, next_line, turn_lines, turn_few, falls_by_line, Consumes-grow, Consumes-same, Consumes-none, still_works, went_on}
 use Rattle.mapdb_script.proofs.script.run_lines.Goals as goal
 
 pub loop-engine-init : goal.loop-engine-init
@@ -15,13 +15,14 @@ loop-engine-init g c = record {
   few = omega (arith, ap (λ s. s.counts.lines) c.new-engine.ensures);
   so_far = ([], [], Consumes-none _ _ c.in_ok-reading.ensures.0, passes-none _ _ _ refl, rw c.new-engine.ensures begins);
   reads = c.requires.reader_works;
+  once = refl;
   writes = c.requires.writer_works;
 }
 
 pub returns-in_err-reading-clause-told : goal.returns-in_err-reading-clause-told
 returns-in_err-reading-clause-told g c =
     let p = err_from_is_err_and c.from_residual.result c.from_residual.ensures.1 in
-    ([], [], Consumes-none (g.R.Source.left c.args.reader.now) [] refl, passes-none _ _ _ refl, rw (p.1, p.2) (((output_of []).text, refl), stops_at_once))
+    ([], [], Consumes-none (g.R.Source.left c.args.reader.now) [] refl, passes-none _ _ _ refl, rw (p.1, p.2) (replied_nothing, stops_at_once))
 
 pub returns-in_err-progress-clause-told : goal.returns-in_err-progress-clause-told
 returns-in_err-progress-clause-told g c =
@@ -36,6 +37,13 @@ returns-in_err-progress-clause-told g c =
       passed,
       rw (p.1, p.2) (tells_unread c.in_err-progress.field-0.0 so_far.0 so_far.1 bytes (script_state c.loop-engine.engine) _ so_far.4 c.loop-engine.invariant.few read.3),
     )
+
+pub returns-in_err-progress-clause-empty : goal.returns-in_err-progress-clause-empty
+returns-in_err-progress-clause-empty g c told =
+    let p = err_from_is_err_and c.from_residual-in_err-progress.result c.from_residual-in_err-progress.ensures.1 in
+    let read = c.in_err-progress.ensures.bytes in
+    c.in_ok-flush_before_read.ensures.empty
+    (read_part c.from_residual-in_err-progress.result c.in_err-progress.field-0.0 (ahead_of c.loop-engine.reading) read.0 (p.1 ∙ ap Err p.2) told read.3)
 
 pub returns-in-Nothing-clause-told : goal.returns-in-Nothing-clause-told
 returns-in-Nothing-clause-told g c =
@@ -110,6 +118,7 @@ loop-engine-preserved g c =
         next.2,
       );
       reads = still_works c.in_ok-progress.progress _ _ _ c.in_ok-progress.ensures.works ∙ c.loop-engine.invariant.reads;
+      once = c.in_ok-progress.ensures.goes_on (went_on c.in_ok-progress.progress c.in_default.not-Nothing c.in_default-progress.not-Last) ∙ c.loop-engine.invariant.once;
       writes = still_works c.in_ok-respond.field-0 _ _ _ c.in_ok-respond.ensures.works ∙ (c.in_ok-flush_before_read.ensures.kept ∙ c.loop-engine.invariant.writes);
     }
 
