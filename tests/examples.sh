@@ -32,13 +32,18 @@ count() {
     fi
 }
 
-# What a command writes, and its status behind it, are the rest of the arguments, line by line.
+# What the command behind -- writes, and its status behind that, are these lines.
 expect() {
-    local name=$1 command=$2
-    shift 2
-    $command >"$folder/found" 2>&1
+    local name=$1 lines=()
+    shift
+    while [[ $1 != -- ]]; do
+        lines+=("$1")
+        shift
+    done
+    shift
+    "$@" >"$folder/found" 2>&1
     echo "status $?" >>"$folder/found"
-    printf '%s\n' "$@" | diff - "$folder/found" >"$folder/told"
+    printf '%s\n' "${lines[@]}" | diff - "$folder/found" >"$folder/told"
     count "$name" $?
 }
 
@@ -66,21 +71,27 @@ log_checking() {
     "$checking/toy_kernel.py" --bug | diff "$checking/kernel.log" - >"$folder/told"
     count "checking: the toy kernel writes the stored log" $?
     "$checking/toy_kernel.py" >"$folder/good.log"
-    expect "checking: the planted fault" "$checking/first_difference.py $checking/kernel.log" \
+    expect "checking: the planted fault" \
         "line 38: served 1 2 80000" "kernel:   served 00010:rw-" "database: served 00010:r--" \
-        "processor 1 was last changed by line 34: deliver 1 1" "status 1"
-    expect "checking: without the fault" "$checking/first_difference.py $folder/good.log" \
-        "no difference: 27 answers compared, 5 of them show less" "status 0"
-    expect "checking: a page that shows less" "$checking/first_difference.py --exact $folder/good.log" \
+        "processor 1 was last changed by line 34: deliver 1 1" "status 1" \
+        -- "$checking/first_difference.py" "$checking/kernel.log"
+    expect "checking: without the fault" \
+        "no difference: 27 answers compared, 5 of them show less" "status 0" \
+        -- "$checking/first_difference.py" "$folder/good.log"
+    expect "checking: a page that shows less" \
         "line 13: served 1 1 40000" "kernel:   served none" "database: served 00010:rw-" \
-        "processor 1 was last changed by line 11: deliver 0 1" "status 1"
+        "processor 1 was last changed by line 11: deliver 0 1" "status 1" \
+        -- "$checking/first_difference.py" --exact "$folder/good.log"
     sed '26s/unmap/unmpa/' "$folder/good.log" >"$folder/faulty.log"
-    expect "checking: a line that is none" "$checking/first_difference.py $folder/faulty.log" \
-        "the log is no script: line 26 fault unknown" "status 2"
+    expect "checking: a line that is none" \
+        "the log is no script: line 26 fault unknown" "status 2" \
+        -- "$checking/first_difference.py" "$folder/faulty.log"
     sed '27s/1/2/' "$folder/good.log" >"$folder/count.log"
-    expect "checking: another count" "$checking/first_difference.py $folder/count.log" \
-        "line 26: unmap 0 1 40000/12:-w- flush" "kernel:   revocations 2" "database: revocations 1" \
-        "processor 0 was last changed by line 4: map 0 0 11000/12:rw- 0 1 41000/12" "status 1"
+    expect "checking: another count" \
+        "line 26: unmap 0 1 40000/12:-w- flush" "kernel:   revocations 2" \
+        "database: revocations 1" \
+        "processor 0 was last changed by line 4: map 0 0 11000/12:rw- 0 1 41000/12" "status 1" \
+        -- "$checking/first_difference.py" "$folder/count.log"
 }
 
 # The version, as each file that has it names it: a line for each.

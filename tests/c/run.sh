@@ -177,11 +177,11 @@ if [ -x "$tool" ] && command -v python3 >/dev/null 2>&1; then
 fi
 
 if command -v cargo >/dev/null 2>&1; then
-    rust() {
+    rust() (
         cd bindings/rust &&
             MAPDB_ARCHIVE=$(dirname "$ARCHIVE") CARGO_TARGET_DIR=$build/rust \
                 cargo test --offline -q
-    }
+    )
     try "the crate for Rust" rust
 fi
 

@@ -63,7 +63,7 @@ pub enum Status {
     NotJson = 27,
     /// The JSON has not the shape of a snapshot.
     SnapshotShape = 28,
-    /// The snapshot has another version.
+    /// The snapshot has another version than 1, 2 and 3.
     SnapshotVersion = 29,
     /// The number is that of no status. No call answers so.
     Unknown = u32::MAX,

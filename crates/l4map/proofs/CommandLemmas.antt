@@ -15,45 +15,10 @@ use Rattle.clap.proofs.OnLiterals.{clap_on_literals}
 use Rattle.clap.proofs.WalkLemmas.{first_value-rows}
 use Rattle.l4map.specs.Commands.{asked, job_in, job_named, l4map}
 
--- one map after another
-fused : {X Y Z : Type 0} (f : X → Y) (h : Y → Z) (o : Option X) → option_map (λ x. h (f x)) o ≡ option_map h (option_map f o)
-fused f h None = refl
-fused f h (Some x) = refl
-
--- the name of the subcommand that was met, from its rows
-name_met : (m : ArgMatches) → subcommand_name_of m ≡ option_map (λ p. p.0) (subcommand_rows_of m)
-name_met m = fused _ _ (out-ArgMatches m).subcommand
-
--- what has this first part and this second one
-both_parts : {A B : Type 0} (o : Option (A × B)) (a : A) (b : B) → option_map (λ p. p.0) o ≡ Some a → option_map (λ p. p.1) o ≡ Some b → o ≡ Some (a, b)
-both_parts None a b first second = cc
-both_parts (Some p) a b first second =
-    let one : p.0 ≡ a = ap (λ o. unwrap_or o a) first in
-    let other : p.1 ≡ b = ap (λ o. unwrap_or o b) second in
-    λ i. Some (one i, other i)
-
--- nothing was met
-no_part : {A B : Type 0} (o : Option (A × B)) → option_map (λ p. p.0) o ≡ None → o ≡ None
-no_part None e = refl
-no_part (Some p) e = cc
-
-pub asked_of : (m : ArgMatches) (name : Text) (rows : List Row) → subcommand_name_of m ≡ Some name
-    → option_map (λ p. p.1) (subcommand_rows_of m) ≡ Some rows → option_and_then asked (subcommand_rows_of m) ≡ job_named name rows
-asked_of m name rows is_name is_rows =
-    ap (option_and_then asked) (both_parts (subcommand_rows_of m) name rows (sym (name_met m) ∙ is_name) is_rows)
-
-pub asked_nothing : (m : ArgMatches) → subcommand_name_of m ≡ None → option_and_then asked (subcommand_rows_of m) ≡ None
-asked_nothing m no_name = ap (option_and_then asked) (no_part (subcommand_rows_of m) (sym (name_met m) ∙ no_name))
-
 -- a command to which an argument was added
 pub shape_with_rule : (old new : Command) (a : Arg) (rule : Rule) → AddsArg old a new → a.global ≡ false → rule_of a ≡ rule
     → shape_of new ≡ (with_rule (app_of old) rule).top
 shape_with_rule old new a rule added plain is_rule = ap (λ (app : App). app.top) (added.shape plain ∙ ap (with_rule (app_of old)) is_rule)
-
--- the same for the whole command line
-pub app_with_rule : (old new : Command) (a : Arg) (rule : Rule) → AddsArg old a new → a.global ≡ false → rule_of a ≡ rule
-    → app_of new ≡ with_rule (app_of old) rule
-app_with_rule old new a rule added plain is_rule = added.shape plain ∙ ap (with_rule (app_of old)) is_rule
 
 -- the first value of an argument, from the rows
 pub first_value_rows : (f : Found) (id : Text) → first_value f id ≡ first_of id (rows_of f)

@@ -14,11 +14,6 @@ use Rattle.l4map.specs.Threaded.{AnswersThreads, IsTextWritten, report_text}
 use Rattle.l4map.specs.declared.threaded.ThreadsFault.{ThreadsFault}
 use Rattle.l4map.specs.declared.threaded.ThreadsFault.TheVariants.{Run, Script}
 
-pub all_alike : (parts : List Part) (j k : ℕ) (d e : Part) → HoldSame parts → j < length parts → k < length parts
-    → SameAtoms (slice_index_or parts j d).history.copy.ops (slice_index_or parts k e).history.copy.ops
-all_alike parts j k d e same one other atom =
-    (λ h. (same k e other atom).1 ((same j d one atom).0 h), λ h. (same j d one atom).1 ((same k e other atom).0 h))
-
 -- what a report's text that was written tells
 pub report_told : (result : Result (Unit {0}) ThreadsFault) (input front : List ℕ) (scripts : List (List Command)) (parts : List Part) (capacity : ℕ) (Over : Type 0)
     → scripts_of input ≡ Ok scripts → Over → IsCount (length scripts) capacity → AreParts scripts parts → HoldSame parts → IsTextWritten result (report_text parts) front

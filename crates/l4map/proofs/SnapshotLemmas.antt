@@ -35,13 +35,6 @@ consumes_zero (Some p) (Some q) None x piece n zero h k = absurd k
 consumes_zero (Some p) (Some q) (Some r) x piece n zero h k =
     h ∙ ap (λ (bs : List ℕ). x ++ bs) (k ∙ ap (λ (m : ℕ). take m piece ++ r) zero)
 
--- what an input that was not all read tells
-pub unread_told : (asked : Asked) (why : TellFault) (input : List ℕ) (Over : Type 0) → IsUnread why input → TellsSnapshot asked (Err why) input [] Over
-unread_told asked Read input Over h = (refl, h)
-unread_told asked Write input Over h = absurd h
-unread_told asked TooLong input Over h = (refl, h)
-unread_told asked (Load fault) input Over h = (refl, inl h)
-
 -- what a text of which a front was written tells
 pub front_told : (asked : Asked) (result : Result (Unit {0}) TellFault) (input whole front : List ℕ) (Over : Type 0)
     → IsAll input Over → answer_told asked input ≡ Ok whole → IsFront result whole front → TellsSnapshot asked result input front Over

@@ -1,6 +1,6 @@
 //! The texts of help.
 
-/// The version, and the kit that it is proved with. `mapdb.pc.in` has the same version.
+/// The version, and the kit that it is proved with. Six files name the version (tests/examples.sh).
 pub const VERSION: &str = "1.0.0 (rattle-kit-13)";
 
 /// What the program does, in a line.

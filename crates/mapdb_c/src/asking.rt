@@ -88,7 +88,7 @@ pub extern "C" fn mapdb_served(
     answer.number()
 }
 
-/// The space, unless its words or the page are out of bounds.
+/// The space, unless its number is too great or the page lies beyond the space.
 fn paged(space: RawSpace, page: u64) -> Result<Space, Status>
     ensures told { result ≡ paged (space_given space) page }
     ensures within { OnOk result (page < PAGE_LIMIT) }

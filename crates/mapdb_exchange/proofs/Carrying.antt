@@ -73,6 +73,3 @@ merges port v other u a b items views h at two at' = let both : PassView = pass_
     let Now : ℕ → PassView → Type 0 = λ j y. j ≢ other → FitsPasses h.0 port h.2 h.3 j y in
     let now : All Now vs = all_set Now views port both (λ _. ((λ _. mine.0 a), λ _. (refl, theirs.1))) (λ j y _ e apart. ((h.5 j y e).0, λ p. absurd (apart (((h.5 j y e).1 p).0 ∙ sym theirs.0)))) in
     (h.0, port, h.2, h.3, h.4, all_set (FitsPasses h.0 port h.2 h.3) vs other (pass_view false false [] []) ((λ p. absurd (true≢false (sym p))), λ p. absurd (true≢false (sym p))) (λ j y apart e. now j y e apart))
-
-pub totals : (port : ℕ) (v : PassView) → v.sends ≡ true → v.receives ≡ true → Learns Carries port v (λ items. v.put ≡ v.received ++ items)
-totals port v a b items views h at = let mine = h.5 port v at in (mine.0 a).1 ∙ h.4 ∙ ap (λ l. l ++ items) (sym (mine.1 b).1)

@@ -3,7 +3,6 @@ pub mod Ascending
 pub mod HeldRecords
 pub mod Listed
 pub mod LookedUp
-pub mod Next
 pub mod RecordAtoms
 pub mod SameRecords
 pub mod Successors

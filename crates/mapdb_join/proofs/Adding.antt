@@ -20,22 +20,6 @@ pub record Added {K : Type 0} (cmp : K → K → Ordering) (old others now : BTr
   pub between : IsBetween (contains cmp) old others now
   pub found : AllByRecursion (λ k. contains cmp others k ≡ true) rest
 
--- before the loop, all is still to be added
-pub added_first : {K : Type 0} (cmp : K → K → Ordering) (old others : BTreeSet K) →
-    AllByRecursion (λ k. contains cmp others k ≡ true) others.keys →
-    Added cmp old others old others.keys
-added_first cmp old others found = record {
-  left = λ x h. inr h;
-  between = record { kept = λ x h. h; within = λ x h. or_left _ _ h };
-  found = found;
-}
-
--- after the loop, the union is there
-pub added_last : {K : Type 0} {cmp : K → K → Ordering} {old others now : BTreeSet K} →
-    Added cmp old others now [] → IsUnion (contains cmp) old others now
-added_last {cmp =
-    cmp} {old} {others} {now} a x = both_ways _ _ (a.between.within x) (λ h. elim (or_cases _ _ h) [ inl p ↦ a.between.kept x p | inr p ↦ elim (a.left x p) [ inl q ↦ q | inr q ↦ absurd (true≢false (sym q)) ] ])
-
 keeps : (b c : Bool) → c ≡ true → cond b true c ≡ true
 keeps true c h = refl
 keeps false c h = h

@@ -52,7 +52,3 @@ region_starts xs first end bits a some h =
     (take_ascends (first + 1) _ _ (drop_ascends 0 (first + 1) xs a))
     (subst (AllBelow end) (sym (middle_is xs (first + 1) end (omega arith))) (front_below (drop (count_below xs (first + 1)) xs) end))
     (λ page lo hi. subst (λ b. bit_or b bits ≡ b) (sym (inside_is xs first end page some (omega arith) hi)) (h page (omega arith) hi)))
-
--- where a region has the bits, nothing changes
-pub over_same : (xs : List Start) (first end bits : ℕ) → HasOver first end bits xs → IsOver first end bits xs xs
-over_same xs first end bits h = record { inside = λ page lo hi. sym (h page lo hi); before = λ page l. refl; behind = λ page l. refl }

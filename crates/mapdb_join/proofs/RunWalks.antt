@@ -76,9 +76,6 @@ step_region xs i r some lt =
     let e : suc (i - 1) ≡ i = omega arith in
     (rw e at (next_above 0 xs (i - 1) r.ascending (omega arith)), (start_bounded xs i r.bounded lt).0)
 
-pub step_small : (xs : List Start) (i : ℕ) → IsRuns xs → 1 ≤ i → i < length xs → (start_at xs (i - 1)).bits < BITS_LIMIT
-step_small xs i r some lt = (start_bounded xs (i - 1) r.bounded (omega arith)).1
-
 -- the runs in front of a start are covered
 abbrev pub CoversBefore : List Start → List Start → ℕ → Type 0
 CoversBefore mine theirs index =
@@ -149,10 +146,4 @@ pub merged_last : (old theirs now : List Start) (i : ℕ) → IsRuns theirs → 
 merged_last old theirs now i r some le ge a page = elim (cases_lt page (start_at theirs (i - 1)).page) [
   | inl p ↦ a.front page p
   | inr p ↦ a.behind page p ∙ sym (or_nothing _ _ (nothing_behind theirs i page r.ascending r.ended some le ge p))
-]
-
-pub merged_part : (old theirs now new : List Start) (i : ℕ) → new ≡ now → Merged old theirs now i → IsPartlyBoth old theirs new
-merged_part old theirs now new i same a page = elim (cases_lt page (start_at theirs (i - 1)).page) [
-  | inl p ↦ inr (ap (λ l. bits_after 0 l page) same ∙ a.front page p)
-  | inr p ↦ inl (ap (λ l. bits_after 0 l page) same ∙ a.behind page p)
 ]

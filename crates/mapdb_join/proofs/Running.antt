@@ -28,13 +28,6 @@ count_above (s ∷ rest) page h = elim (cases_lt s.page page) [
   | inr p ↦ rw (uncounted s rest page p) p
 ]
 
-pub count_bound : (xs : List Start) (page : ℕ) → count_below xs page ≤ length xs
-count_bound [] page = omega arith
-count_bound (s ∷ rest) page = elim (cases_lt s.page page) [
-  | inl p ↦ rw (counted s rest page p) (let k = count_bound rest page in omega (arith, k))
-  | inr p ↦ rw (uncounted s rest page p) (omega arith)
-]
-
 -- as many are below a start's page as stand in front of it
 pub count_own : (least : ℕ) (xs : List Start) (i : ℕ) → Ascends least xs → i < length xs →
     count_below xs (start_at xs i).page ≡ i

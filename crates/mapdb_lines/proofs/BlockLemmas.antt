@@ -12,11 +12,6 @@ pub appends-none : (a : Option (List ℕ)) → Appends a a []
 appends-none None = tt
 appends-none (Some p) = sym (append-nil p)
 
-keeps-none : (a b : Option (List ℕ)) → Keeps a b → Appends a b []
-keeps-none None b h = tt
-keeps-none (Some p) None h = absurd h
-keeps-none (Some p) (Some q) h = h ∙ sym (append-nil p)
-
 -- one text after another
 pub passes-then : (a b c : Option (List ℕ)) (x y z s t : List ℕ) → Passes a b x y s → Passes b c y z t → Passes a c x z (s ++ t)
 passes-then a b c x y z s t h k = (
@@ -34,17 +29,9 @@ pub passes-on : (a b c : Option (List ℕ)) (x y z s : List ℕ) → Passes a b 
 passes-on a b c x y z s h k =
     let both = passes-then a b c x y z s [] h k in (both.0, both.1, ap (λ (bs : List ℕ). x ++ bs) (sym (append-nil s)) ∙ both.2)
 
--- a write that took nothing
-pub passes-kept : (a b : Option (List ℕ)) (x : List ℕ) → Keeps a b → Passes a b x x []
-passes-kept a b x h = ([], keeps-none a b h, append-nil x)
-
 -- the front of what waits is written
 pub passes-written : (a b : Option (List ℕ)) (n : ℕ) (x y : List ℕ) → Appends a b (take n x) → y ≡ drop n x → Passes a b x y []
 passes-written a b n x y h e = (take n x, h, append-nil x ∙ (sym (take-append-drop n x) ∙ ap (λ (bs : List ℕ). take n x ++ bs) (sym e)))
-
--- a text waits too
-pub passes-added : (a : Option (List ℕ)) (x y t : List ℕ) → y ≡ x ++ t → Passes a a x y t
-passes-added a x y t e = ([], appends-none a, sym e)
 
 -- nothing waits, and a text is written
 pub passes-direct : (a b : Option (List ℕ)) (x t : List ℕ) → x ≡ [] → Appends a b t → Passes a b x x t

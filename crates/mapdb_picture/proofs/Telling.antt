@@ -23,10 +23,6 @@ told f old new all x xs left more is before =
     ap (λ (t : List ℕ). t ++ flat_map f xs) more ∙ append_assoc old (f x) (flat_map f xs)
     ∙ ap (λ ys. old ++ flat_map f ys) (sym is) ∙ before
 
--- none are left
-pub all_told : {A : Type 0} (f : A → List ℕ) (text all : List ℕ) (left : List A) → left ≡ [] → text ++ flat_map f left ≡ all → text ≡ all
-all_told f text all left none before = sym (append-nil text) ∙ ap (λ ys. text ++ flat_map f ys) (sym none) ∙ before
-
 -- whether a text is empty
 pub told_nothing : (text : List ℕ) → nat_eq (length text) 0 ≡ true → or_nothing text ≡ codes "nothing\n"
 told_nothing [] e = refl

@@ -1,7 +1,6 @@
 pub mod Linking
 pub mod PageAnswers
 pub mod PathTrees
-pub mod Reading
 pub mod Showing
 pub mod Starting
 pub mod TreeLists

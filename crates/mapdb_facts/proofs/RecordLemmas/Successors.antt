@@ -107,14 +107,6 @@ first_here kept formed number n p inner r above outer least found first =
     higher : (m n : ℕ) → n ≤ m → (m == n) ≡ false → n < m
     higher m n low other = grind (arith, nat_tests)
 
--- a number is not without a record
-pub none_empty : (records : Records) → Filled records → (n : ℕ) (inner : List (ℕ × Record)) → lookup (is_at (nat_cmp n)) records ≡ Some inner → ((q : ℕ) → IsAbove nat_cmp None q → lookup (is_at (nat_cmp q)) inner ≡ None) → ⊥
-none_empty records filled n inner outer none =
-    let one = filled n (is_some_from _ inner outer) in
-    let id : RecordId = record { number = n; processor = one.0 } in
-    let at = record_of_atom records id one.1 one.2 in
-    none_some one.1 (sym (none one.0 tt) ∙ inner_of records n inner id one.1 refl outer at)
-
 -- first the number itself, then those above it
 later_or_next : (after s : RecordId) → is_before after s ≡ true → is_next_of_number after s ≡ false → has_above (Some after.number) s ≡ true
 later_or_next after s h k = grind (arith, nat_tests)

@@ -12,9 +12,6 @@ use Rattle.mapdb_facts.specs.declared.names.RecordId.{RecordId}
 use Rattle.mapdb_lists.specs.Changes.{covers, PageChanges, IsStretch, IsWritten, at_first, past_the_end, seen_in, change_at, changed}
 use Rattle.mapdb_lists.proofs.ChangeLemmas.LastChanges.{changed-here, changed-same, changed-stays, given_before, given_behind, given_inside}
 
-different : (a b : ℕ) → (a ≡ b → ⊥) → nat_eq a b ≡ false
-different a b apart = elim (cases_Bool (nat_eq a b)) [ inl same ↦ absurd (apart (eqb-true a b same)) | inr other ↦ other ]
-
 itself : (id : RecordId) → same_id id id ≡ true
 itself id = and_from (nat_eq id.number id.number) (nat_eq id.processor id.processor) (eq-eqb id.number id.number refl) (eq-eqb id.processor id.processor refl)
 

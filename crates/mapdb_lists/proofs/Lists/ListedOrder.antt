@@ -107,24 +107,6 @@ listed_itself a = ap is_eq (tied_itself listed_total a)
 
 -- ---- owners between two of one owner
 
-pub tied : (o p : Ordering) → o ≡ ordering_reverse p → is_gt o ≡ false → is_gt p ≡ false → is_eq o ≡ true
-tied Equal p e h k = refl
-tied Greater p e h k = absurd (true≢false h)
-tied Less Greater e h k = absurd (true≢false k)
-tied Less Equal e h k = absurd (true≢false (ap is_lt e))
-tied Less Less e h k = absurd (true≢false (ap is_lt e))
-
-pub first_le : (a b : Ordering) → is_gt (ordering_then a b) ≡ false → is_gt a ≡ false
-first_le Less b h = refl
-first_le Equal b h = refl
-first_le Greater b h = h
-
-pub between_owner : (low e high : Listed) → is_gt (listed_cmp low e) ≡ false → is_gt (listed_cmp e high) ≡ false → high.owner ≡ low.owner → low.owner ≡ e.owner
-between_owner low e high up down same =
-    let a : is_gt (owner_cmp low.owner e.owner) ≡ false = first_le (owner_cmp low.owner e.owner) _ up in
-    let b : is_gt (owner_cmp e.owner low.owner) ≡ false = subst (λ (o : Owner). is_gt (owner_cmp e.owner o) ≡ false) same (first_le (owner_cmp e.owner high.owner) _ down) in
-    exact_owner low.owner e.owner (sym (owner_at low.owner e.owner) ∙ tied (owner_cmp low.owner e.owner) (owner_cmp e.owner low.owner) (owner_back low.owner e.owner) a b)
-
 -- ---- entries of one owner
 
 pub same_then : (a b : Listed) → a.owner ≡ b.owner → listed_cmp a b ≡ ordering_then (nat_cmp a.order b.order) (ordering_then (nat_cmp a.first b.first) (id_cmp a.id b.id))
@@ -184,15 +166,6 @@ root_first id =
     none_below n (inl less) = ap is_gt (from_below 0 n less)
     none_below n (inr (inl same)) = ap is_gt (from_equal 0 n same)
     none_below n (inr (inr above)) = absurd (omega arith)
-
--- of two entries that differ the one that comes no later comes first
-pub same_or_above : (a b : Listed) → is_gt (listed_cmp a b) ≡ false → (a ≡ b) ⊎ (listed_cmp a b ≡ Less)
-same_or_above a b h = by (listed_cmp a b) refl h
-  where
-    by : (o : Ordering) → listed_cmp a b ≡ o → is_gt o ≡ false → (a ≡ b) ⊎ (listed_cmp a b ≡ Less)
-    by Less e k = inr e
-    by Equal e k = inl (exact_listed a b (ap is_eq e))
-    by Greater e k = absurd (true≢false k)
 
 pub less_from : (o : Ordering) → is_lt o ≡ true → o ≡ Less
 less_from Less h = refl

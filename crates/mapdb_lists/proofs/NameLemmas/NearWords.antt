@@ -9,15 +9,6 @@ use Rattle.mapdb_lists.specs.NamePlaces.{near_word, words_in}
 
 -- ---- an empty list more
 
-words_added : (near : List (Vec ℕ)) (more : Vec ℕ) (p : ℕ) → more.items ≡ [] → words_in (slice_get (near ++ more ∷ []) p) ≡ words_in (slice_get near p)
-words_added [] more zero empty = empty
-words_added [] more (suc p) empty = refl
-words_added (words ∷ near) more zero empty = refl
-words_added (words ∷ near) more (suc p) empty = words_added near more p empty
-
-pub near_added : (near : List (Vec ℕ)) (more : Vec ℕ) (q : RecordId) → more.items ≡ [] → near_word (near ++ more ∷ []) q ≡ near_word near q
-near_added near more q empty = ap (λ words. slice_index words q.number) (words_added near more q.processor empty)
-
 -- ---- a list is written
 
 words_here : (near : List (Vec ℕ)) (new : Vec ℕ) (p : ℕ) → p < length near → words_in (slice_get (set near p new) p) ≡ new.items

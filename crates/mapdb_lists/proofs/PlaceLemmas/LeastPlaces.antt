@@ -36,18 +36,6 @@ any_more t (y ∷ xs) x = ap (λ (b : Bool). t y || b) (any_more t xs x) ∙ tur
 pub stands_more : (places : List OwnPlace) (p k : OwnPlace) → stands (places ++ p ∷ []) k ≡ (is_at (place_cmp p) k || stands places k)
 stands_more places p k = any_more (is_at (place_cmp k)) places p ∙ ap (λ (b : Bool). b || stands places k) (at_back k p)
 
--- a list and a set with one place more
-pub list_put : (old new : List OwnPlace) (p : OwnPlace) → new ≡ old ++ p ∷ [] → (k : OwnPlace) → stands new k ≡ (is_at (place_cmp p) k || stands old k)
-list_put old new p is k = ap (λ (l : List OwnPlace). stands l k) is ∙ stands_more old p k
-
-pub set_put : (old new : List OwnPlace) (p : OwnPlace) → ((k : OwnPlace) → stands new k ≡ cond (is_at (place_cmp p) k) true (stands old k))
-    → (k : OwnPlace) → stands new k ≡ (is_at (place_cmp p) k || stands old k)
-set_put old new p put k = put k ∙ either (is_at (place_cmp p) k) (stands old k)
-  where
-    either : (a b : Bool) → cond a true b ≡ (a || b)
-    either true b = refl
-    either false b = refl
-
 pub many_step : (places : List OwnPlace) (i : ℕ) (d : OwnPlace) (old new : List OwnPlace) → i < length places
     → ((k : OwnPlace) → stands new k ≡ (is_at (place_cmp (get_or places i d)) k || stands old k))
     → ((k : OwnPlace) → stands old k ≡ stands (take i places) k) → (k : OwnPlace) → stands new k ≡ stands (take (i + 1) places) k
@@ -136,18 +124,6 @@ least_step test places i d found inside h =
     subst (λ (done : List OwnPlace). IsFirstPlaceWhere test done (lesser_where test found (get_or places i d))) (sym (take_more places i d inside))
     (least_more test (take i places) (get_or places i d) found h)
 
--- the least of those that come after another and meet the pages
-pub next_of : (places : List OwnPlace) (first end : ℕ) (after r : Option OwnPlace) → IsFirstPlaceWhere (is_next after first end) places r → IsNextPlace places first end after r
-next_of places first end after None h = λ k has above. sym (ap (λ (b : Bool). b && own_meets k first end) above) ∙ h k has
-next_of places first end after (Some p) h =
-    let both = and_parts (is_beyond after p) (own_meets p first end) h.passing in
-    record {
-      held = h.held;
-      above = both.0;
-      meeting = both.1;
-      least = λ k has above meeting. h.least k has (and_from (is_beyond after k) (own_meets k first end) above meeting);
-    }
-
 -- ---- found in the order
 
 inside_as : (start : Bound OwnPlace) (k : OwnPlace) → IsFromStart place_cmp start k → is_from_start place_cmp start k ≡ true
@@ -167,14 +143,6 @@ first_shown set start p rest h = record {
   passing = inside_as start p h.1.0.0;
   least = λ k has passes. h.2 k (as_inside start k passes, tt) has;
 }
-
-pub none_shown : (set : BTreeSet OwnPlace) (start : Bound OwnPlace) → IsKeyRangeOf place_cmp start Unbounded set []
-    → (k : OwnPlace) → stands set.keys k ≡ true → is_from_start place_cmp start k ≡ false
-none_shown set start h k has =
-    elim (cases_Bool (is_from_start place_cmp start k)) [
-      | inl so ↦ absurd (true≢false (sym has ∙ h.5 refl k (as_inside start k so, tt)))
-      | inr not_so ↦ not_so
-    ]
 
 -- ---- the first two, in their order
 

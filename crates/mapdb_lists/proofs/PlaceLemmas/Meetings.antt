@@ -38,15 +38,6 @@ meets_below p first end h =
     let less : max p.first first < min (p.first + own_pages p) end = ltb-true (max p.first first) (min (p.first + own_pages p) end) h in
     (omega arith, omega arith)
 
-pub meets_no_pages : (p : OwnPlace) (first end : ℕ) → end ≤ first → own_meets p first end ≡ false
-meets_no_pages p first end none =
-    elim (cases_Bool (own_meets p first end)) [
-      | inl so ↦
-          let less : max p.first first < min (p.first + own_pages p) end = ltb-true (max p.first first) (min (p.first + own_pages p) end) so in
-          absurd (omega arith)
-      | inr not_so ↦ not_so
-    ]
-
 -- what does not meet the pages and begins before their end ends before they begin
 pub ends_before : (p : OwnPlace) (first end : ℕ) → first < end → p.first < end → own_meets p first end ≡ false → p.first + own_pages p ≤ first
 ends_before p first end pages begins h =

@@ -248,13 +248,6 @@ put_stands places index p k =
     sym (list_any-IsPermutation (is_at (place_cmp k)) (p ∷ places) (insert places index p) (IsPermutation-insert places index p))
     ∙ ap (λ (b : Bool). b || stands places k) (at_back k p)
 
--- a place that stands there already changes nothing
-pub known_stands : (places : List OwnPlace) (p k : OwnPlace) → stands places p ≡ true → stands places k ≡ (is_at (place_cmp p) k || stands places k)
-known_stands places p k has = elim (cases_Bool (is_at (place_cmp p) k)) [
-  | inl here ↦ subst (λ (x : OwnPlace). stands places x ≡ true) (exact_place p k here) has ∙ sym (ap (λ (b : Bool). b || stands places k) here)
-  | inr other ↦ sym (ap (λ (b : Bool). b || stands places k) other)
-]
-
 -- what does not come before a place stands inside its bound
 pub not_from : (from k : OwnPlace) → is_lt (place_cmp k from) ≡ not (is_le (place_cmp from k))
 not_from from k = ap is_lt (place_total.antisymm k from) ∙ by (place_cmp from k)

@@ -18,13 +18,6 @@ use Rattle.mapdb_lists.specs.contracts.own_places.OwnPlacePartialEq.TheImpl as p
 use Rattle.mapdb_lists.specs.OwnPlaces.{place_cmp, start}
 use Rattle.mapdb_lists.proofs.Lists.ListedOrder.{from_equal, id_total, less_from, root_first, three_ways, up_to}
 
--- the order that is derived is the one that is written
-abbrev pub derived_cmp : OwnPlace → OwnPlace → Ordering
-derived_cmp = (place_ord.ghosts).cmp
-
-pub derived_is : derived_cmp ≡ place_cmp
-derived_is = refl
-
 -- and so is what is equal
 abbrev pub derived_eq : OwnPlace → OwnPlace → Bool
 derived_eq = (place_eq.ghosts).eq

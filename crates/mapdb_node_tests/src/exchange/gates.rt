@@ -69,7 +69,7 @@ fn fault_at<R: Abort + Threads + Wait + Sync, G: Gate + Sync>(
 /// Where one lock stood round all nodes, or one thread did everything, no two processors would be
 /// held at once.
 #[test]
-fn no_parallelism(rt: HostRuntime) -> Result<(), Fail> {
+fn two_processors_are_held_at_once(rt: HostRuntime) -> Result<(), Fail> {
     let meeting = Meeting {
         held: [AtomicU64::new(0), AtomicU64::new(0)],
     };

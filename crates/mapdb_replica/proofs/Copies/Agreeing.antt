@@ -46,10 +46,6 @@ known_covers xs (op ∷ ys) known atom has = by_part (and_parts (not (is_new (st
 pub known_exact : (xs ys : List Op) (answer : Bool) → IsSound xs → answer ≡ knows_all xs ys → IsTrue answer ↔ Covers xs ys
 known_exact xs ys answer sound is = (λ yes. known_covers xs ys (sym is ∙ yes), λ all. is ∙ covers_known xs ys sound all)
 
--- both ways is the same atoms
-pub both_ways : (xs ys : List Op) → Covers xs ys → Covers ys xs → SameAtoms xs ys
-both_ways xs ys one other atom = (other atom, one atom)
-
 pub look_alike : AgreementIsOfAtoms
 unfolding page_rights served
 look_alike xs ys sound same =

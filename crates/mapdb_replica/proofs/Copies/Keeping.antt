@@ -27,11 +27,6 @@ use Rattle.mapdb_replica.specs.Keeping.{ArePlaces, IsKeptCopy}
 use Rattle.mapdb_replica.specs.Replica.{most_operations}
 use Rattle.mapdb_replica.proofs.Copies.PlacedOps.{places-grown}
 
--- what holds on success holds where there was no error
-pub on_ok : {A E : Type 0} → (r : Result A E) (P : Type 0) → is_err r ≡ false → OnOk r P → P
-on_ok (Ok a) P h p = p
-on_ok (Err e) P h p = absurd (true≢false h)
-
 formed_if : (o : Result (Unit {0}) OpFault) (new b : Bool) (clash : Option RecordId) → added_if o new clash ≡ Ok b → is_ok o ≡ true
 formed_if (Ok u) new b clash h = refl
 formed_if (Err fault) new b clash h = cc

@@ -15,17 +15,6 @@ use Rattle.mapdb_rights.specs.declared.index.rights_index.RightsIndex.{RightsInd
 use Rattle.mapdb_replica.proofs.Copies.OpForms.{HasForm, source_is}
 use Rattle.mapdb_replica.proofs.Maps.HolderNames.{not_root}
 
--- an index that kept up before an operation
-pub kept_before : (index : RightsIndex) (S T : State) (op : Op) → KeepsUp index S → T ≡ join S (said op) → KeptUpBefore index op T
-kept_before index S T op (inl absent) is = inl absent
-kept_before index S T op (inr stands) is = inr (record { before = S; is = is; stood = stands })
-
--- it follows, or is absent
-pub followed : {E : Type 0} → (r : Result (Unit {0}) E) (old new : RightsIndex) (S : State) → old.absent ≡ false
-    → OnOk r (old.absent ≡ false → StandsFor new S) → OnErr r (new.absent ≡ true) → KeepsUp new S
-followed (Ok u) old new S there stands absent = inr (stands there)
-followed (Err e) old new S there stands absent = inl absent
-
 -- an index that has an answer is there
 pub answers_there : {A E : Type 0} → (index : RightsIndex) (result : Result (Option A) E) (found : A) → (index.absent ≡ true → result ≡ Ok None)
     → result ≡ Ok (Some found) → index.absent ≡ false

@@ -110,9 +110,6 @@ number-next greatest rest later r is all =
     let head : greatest_number rest ≡ max r.id.number (greatest_number later) = ap greatest_number is in
     (omega (arith, head, all), omega (arith, head, all))
 
-pub some-fitting : (source : Place) (greatest : ℕ) (o : Option Piece) (piece : Piece) → o ≡ Some piece → IfSome o (IsFitting source greatest) → IsFitting source greatest piece
-some-fitting source greatest o piece is h = subst (λ (x : Option Piece). IfSome x (IsFitting source greatest)) is h
-
 pub list-fitting : (source : Place) (greatest : ℕ) (o : Option Piece) → IfSome o (IsFitting source greatest) → AllFitting source greatest (list_of o)
 list-fitting source greatest None h = tt
 list-fitting source greatest (Some piece) h = (h, tt)

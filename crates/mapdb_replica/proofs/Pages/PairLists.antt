@@ -27,10 +27,6 @@ with_pair-same pair other rest same =
     cond-false (nat_lt pair.0 other.0) (pair ∷ other ∷ rest) (if pair.0 == other.0 then (other.0, union other.1 pair.1) ∷ rest else other ∷ with_pair pair rest) (grind (arith, nat_tests))
     ∙ cond-true (pair.0 == other.0) ((other.0, union other.1 pair.1) ∷ rest) (other ∷ with_pair pair rest) (eq-eqb pair.0 other.0 (sym same))
 
-with_pair-higher : (pair other : Pair) (rest : List Pair) → pair.0 < other.0 → with_pair pair (other ∷ rest) ≡ pair ∷ other ∷ rest
-with_pair-higher pair other rest less =
-    cond-true (nat_lt pair.0 other.0) (pair ∷ other ∷ rest) (if pair.0 == other.0 then (other.0, union other.1 pair.1) ∷ rest else other ∷ with_pair pair rest) (lt-ltb pair.0 other.0 less)
-
 -- one frame more is passed
 pub place-next : (pair : Pair) (pairs : List Pair) (i : ℕ) (d : Pair) → i < length pairs → (get_or pairs i d).0 < pair.0
     → with_pair pair pairs ≡ take i pairs ++ with_pair pair (drop i pairs) → with_pair pair pairs ≡ take (i + 1) pairs ++ with_pair pair (drop (i + 1) pairs)
@@ -66,15 +62,6 @@ place-joined frame rights known pairs i a b within is_a same is_b joined so_far 
     let here : get_or pairs i b ≡ a = read_same pairs i b a within ∙ sym is_a in
     ap (λ (k : Rights). set pairs i (frame, k)) (joined ∙ ap (λ (p : Pair). union p.1 rights) is_b)
     ∙ place-same (frame, rights) pairs i b within (ap (λ (p : Pair). p.0) here ∙ same) so_far
-
--- or stand between lower and higher frames
-insert-first : (pair : Pair) (rest : List Pair) → ((other : Pair) (later : List Pair) → rest ≡ other ∷ later → pair.0 < other.0) → with_pair pair rest ≡ pair ∷ rest
-insert-first pair [] high = refl
-insert-first pair (other ∷ later) high = with_pair-higher pair other later (high other later refl)
-
-pub place-between : (pair : Pair) (pairs : List Pair) (i : ℕ) → ((other : Pair) (later : List Pair) → drop i pairs ≡ other ∷ later → pair.0 < other.0)
-    → with_pair pair pairs ≡ take i pairs ++ with_pair pair (drop i pairs) → insert pairs i pair ≡ with_pair pair pairs
-place-between pair pairs i high so_far = sym (so_far ∙ ap (λ (xs : List Pair). take i pairs ++ xs) (insert-first pair (drop i pairs) high))
 
 -- what comes first behind a place
 pub first-behind : (pairs : List Pair) (i : ℕ) (d pair : Pair) (rest : List Pair) → i < length pairs → drop i pairs ≡ pair ∷ rest → get_or pairs i d ≡ pair

@@ -16,9 +16,6 @@ before_itself a = grind (arith, nat_tests)
 not_same : (a b : RecordId) → is_before b a ≡ true → same_id a b ≡ false
 not_same a b h = grind (arith, nat_tests)
 
-one_before : (a b : RecordId) → is_before b a ≡ false → same_id a b ≡ false → is_before a b ≡ true
-one_before a b h k = grind (arith, nat_tests)
-
 not_before : (a b c : RecordId) → is_before b a ≡ false → is_before c b ≡ false → is_before c a ≡ false
 not_before a b c h k = grind (arith, nat_tests)
 

@@ -112,8 +112,3 @@ pair_is o rights own frame reached at is same some =
     (λ i. Some (is i, same i))
     ∙ sym (cond-false (is_empty rights) None (Some (reached, rights)) (ap is_empty (sym same) ∙ some))
     ∙ ap (λ (p : Option ℕ). pair_with p rights) (sym at)
-
--- and else none
-pub no_pair : (o : Option ℕ) (rights : Rights) → is_empty rights ≡ true → None ≡ pair_with o rights
-no_pair None rights none = refl
-no_pair (Some frame) rights none = sym (cond-true (is_empty rights) None (Some (frame, rights)) none)

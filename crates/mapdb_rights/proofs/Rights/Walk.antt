@@ -19,9 +19,6 @@ use Rattle.mapdb_rights.proofs.Rights.Steps.{has_right-root, has_right-record, h
 pub same_rights : (f g : Right → Bool) → ((right : Right) → f right ≡ g right) → rights_where f ≡ rights_where g
 same_rights f g h = λ i. record { read = h Read i; write = h Write i; execute = h Execute i }
 
-pub common_all : (a : Rights) → common all_rights a ≡ a
-common_all a = refl
-
 pub common_none : (a : Rights) → common a no_rights ≡ no_rights
 common_none a = same_rights (λ right. includes a right && false) (λ _. false) (λ right. and_right (includes a right) false refl)
 

@@ -49,12 +49,6 @@ meets_holding r page end q inside low before =
     let high : q < r.place.first_page + own_pages (own_place (place_of r)) = range.1 in
     lt-ltb (max r.place.first_page page) (min (r.place.first_page + own_pages (own_place (place_of r))) end) (omega arith)
 
--- a place that begins behind the page does not meet the pages before it
-pub begins_there : (p : OwnPlace) (page : ℕ) → page < p.first → own_meets p page p.first ≡ true → ⊥
-begins_there p page behind h =
-    let less : max p.first page < min (p.first + own_pages p) p.first = ltb-true (max p.first page) (min (p.first + own_pages p) p.first) h in
-    omega arith
-
 module _ (set : Places) (space : Space) (cached : Cached) (page : ℕ) where
   -- what is cached of a name stays up to the end
   abbrev pub Stays : RecordId → ℕ → Type 0

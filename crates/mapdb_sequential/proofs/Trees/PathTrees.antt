@@ -90,8 +90,3 @@ path_after_end T space complete = record {
   node_at = λ spot. path_unmapped space complete all_rights true spot (T.node_at spot);
   is_over = λ other. T.is_over other || same_space space other;
 }
-
--- the frame and the rights of a node
-abbrev pub path_answer : Option PathNode → Option (ℕ × Rights)
-path_answer None = None
-path_answer (Some node) = Some (node.frame, node.rights)

@@ -22,9 +22,6 @@ IsLow steps U = (page : Page) (node : PathNode) → U.node_at page ≡ Some node
 pub same_tree : (T T' : Tree) → AreSame T T' → T' ≡ T
 same_tree T T' same = λ i. record { node_at = λ page. same.nodes page i; is_over = λ space. same.ends space i }
 
-pub are_same : (T T' : Tree) → T' ≡ T → AreSame T T'
-are_same T T' e = record { nodes = λ page. ap (λ (X : Tree). X.node_at page) e; ends = λ space. ap (λ (X : Tree). X.is_over space) e }
-
 module _ (T : Tree) (U : PathTree) (is : IsShort T U) (space : Space) (part : Place) where
   -- a way up of at most so many steps is looked at whole
   below_is : (steps : ℕ) (page : Page) (node : PathNode) (above : List Page) → U.node_at page ≡ Some node → node.above ≡ above

@@ -11,10 +11,6 @@ abbrev pub OpensWith : {X : Type 0} → (X → Data) → List X → Bool → Lis
 OpensWith write xs later start here =
     (rows : List Data) (rest : List ℕ) → here ≡ items_text later (items_of rows) ++ rest → start ≡ compact_text (list_of (map write xs ++ rows)) ++ rest
 
--- no row is scanned, behind the opening bracket
-pub rows_open : {X : Type 0} (write : X → Data) (start here : List ℕ) → start ≡ 91 ∷ here → OpensWith write [] false start here
-rows_open write start here is rows rest closes = is ∙ ap (λ t. 91 ∷ t) closes
-
 rows_with : {X : Type 0} (write : X → Data) (xs : List X) (x : X) (rows : List Data) → map write xs ++ (write x ∷ rows) ≡ map write (xs ++ (x ∷ [])) ++ rows
 rows_with write [] x rows = refl
 rows_with write (y ∷ ys) x rows = ap (λ ds. write y ∷ ds) (rows_with write ys x rows)
@@ -35,11 +31,3 @@ pub rows_closed : {X : Type 0} (write : X → Data) (xs : List X) (later : Bool)
     → OpensWith write xs later start before → before ≡ 93 ∷ behind → start ≡ compact_text (list_of (map write xs)) ++ behind
 rows_closed write xs later start before behind opens closes =
     opens [] behind closes ∙ ap (λ (ds : List Data). compact_text (list_of ds) ++ behind) (append-nil (map write xs))
-
--- a row takes a byte at least
-pub row_shorter : (ds : Items) (comma before between behind : List ℕ) → before ≡ comma ++ between → between ≡ compact_text (array ds) ++ behind
-    → length behind < length before
-row_shorter ds comma before between behind is row =
-    let first = ap length is ∙ length-append comma between in
-    let second = ap length row ∙ length-append (compact_text (array ds)) behind in
-    omega (arith, first, second)

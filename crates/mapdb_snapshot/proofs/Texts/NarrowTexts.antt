@@ -127,9 +127,6 @@ placed_near (one ∷ rest) ops e near op among =
       | inr later ↦ placed_near rest b.0 b.1 (λ x k. near x (inr k)) op later
     ]
 
-same_value : (a b : Somewhere Op) → (let x : Result (Somewhere Op) SnapshotFault = Ok a in x) ≡ Ok b → a ≡ b
-same_value a b e = cc
-
 -- the steps of reading a record, from the last one up
 abbrev record_as : RecordId → Space → Unplaced → RecordId → ℕ → Rights → Somewhere Op
 record_as id space place parent source rights = record {
