@@ -25,8 +25,8 @@ $(BUILT)/calls: bench/c/calls.c include/mapdb.h $(BUILT)/mapdb_heap.o $(ARCHIVE)
 	$(CC) $(CFLAGS) -Iinclude -o $@ $< $(BUILT)/mapdb_heap.o $(ARCHIVE)
 
 # The heap over malloc has an archive of its own, which a kernel with a heap leaves out: mapdb.pc
-# names the library alone, and mapdb-heap.pc both. They name the folder of this installation, so they
-# are made anew each time.
+# names the library alone, and mapdb-heap.pc both. They name the folder of this installation, so
+# they are made anew each time.
 install: $(ARCHIVE) $(BUILT)/mapdb_heap.o
 	install -d $(DESTDIR)$(PREFIX)/include $(DESTDIR)$(PREFIX)/lib/pkgconfig
 	install -m 644 include/mapdb.h $(DESTDIR)$(PREFIX)/include
