@@ -7,9 +7,6 @@ returns-then-is_grant c = search rules
 pub returns-then-not-is_map : goal.returns-then-not-is_map
 returns-then-not-is_map c = search rules
 
-pub returns-then-not-is_clear : goal.returns-then-not-is_clear
-returns-then-not-is_clear c = search rules
-
 pub returns-in_err-page : goal.returns-in_err-page
 returns-in_err-page c = search rules
 

@@ -13,18 +13,6 @@ returns-then-page-self-clause-same c = search rules
 pub returns-then-page-self-clause-other : goal.returns-then-page-self-clause-other
 returns-then-page-self-clause-other c = search rules
 
-pub returns-then-page-end-clause-above : goal.returns-then-page-end-clause-above
-returns-then-page-end-clause-above c = search rules
-
-pub returns-then-page-end-clause-limit : goal.returns-then-page-end-clause-limit
-returns-then-page-end-clause-limit c = search rules
-
-pub returns-then-page-end-clause-same : goal.returns-then-page-end-clause-same
-returns-then-page-end-clause-same c = search rules
-
-pub returns-then-page-end-clause-other : goal.returns-then-page-end-clause-other
-returns-then-page-end-clause-other c = search rules
-
 pub returns-else-page-end-clause-above : goal.returns-else-page-end-clause-above
 returns-else-page-end-clause-above c = search rules
 
