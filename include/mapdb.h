@@ -361,7 +361,8 @@ MAPDB_CALL uint32_t mapdb_end(mapdb_copy *copy, mapdb_space space, mapdb_issued 
  * stands behind what was held. But for the last of these, a batch is refused as a whole, with
  * nothing changed, for the first that holds:
  *   MAPDB_NO_COPY: *taken is not written.
- *   MAPDB_MEMORY, with taken->place 0: to read the batch. It may come in place of any below.
+ *   MAPDB_MEMORY, with taken->place 0: to read the batch. It may come in place of any below, but
+ *     not where there is no operation, or the first one says none.
  *   MAPDB_BAD_KIND, MAPDB_BAD_SPACE, MAPDB_BAD_PROCESSOR, MAPDB_BAD_RIGHTS or that of a place: the
  *     operation at taken->place says no operation. It is the first such one. Its kind is looked at
  *     first; of a record then its processor, space, place, parent's processor and rights, of a
