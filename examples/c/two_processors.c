@@ -44,7 +44,7 @@ static void open_channel(channel *opened)
     pthread_cond_init(&opened->changed, NULL);
 }
 
-static void send(channel *out, const mapdb_operation *operations, size_t count)
+static void put_on(channel *out, const mapdb_operation *operations, size_t count)
 {
     pthread_mutex_lock(&out->lock);
     memcpy(out->operations + out->written, operations, count * sizeof *operations);
@@ -97,7 +97,7 @@ static void send_own(processor *self)
 
         status = mapdb_give_own(&self->copy, self->sent, end, batch, BATCH, &count);
         if (status == MAPDB_DONE) {
-            send(self->out, batch, count);
+            put_on(self->out, batch, count);
             self->sent = end;
         } else
             tries++;

@@ -20,6 +20,7 @@ pub const END: u32 = 3;
 #[repr(C)]
 #[derive(Debug)]
 pub struct Handle {
+    /// Where the copy is, null where there is none.
     pub at: *mut c_void,
 }
 
@@ -114,27 +115,41 @@ pub struct Row {
     pub reserved: u32,
 }
 
+/// What a command issued.
 #[repr(C)]
 #[derive(Default)]
 pub struct Issued {
+    /// The number of a Map's first record; 0 of one that issued none, and of other commands.
     pub first: u64,
+    /// How many operations were issued; where memory ran out, how many of them stand.
     pub count: u64,
+    /// The space that has ended, where a command is refused for one.
     pub space: Space,
 }
 
+/// What became of a batch.
 #[repr(C)]
 #[derive(Default)]
 pub struct Taken {
+    /// How many operations were new.
     pub count: u64,
+    /// The place of a bad operation; where memory ran out, of how many operations all stands.
     pub place: u64,
+    /// At a clash, the number of the name.
     pub number: u64,
+    /// At a clash, the processor of the name.
     pub processor: u32,
+    /// Nothing.
     pub reserved: u32,
 }
 
+// Each call as `include/mapdb.h` tells it, with the statuses that it answers.
 unsafe extern "C" {
+    /// Makes an empty copy of a processor.
     pub fn mapdb_create(copy: *mut Handle, processor: u32) -> u32;
+    /// Ends a copy and gives its memory back.
     pub fn mapdb_destroy(copy: *mut Handle);
+    /// Maps or grants pages of one space to another.
     pub fn mapdb_map(
         copy: *mut Handle,
         sender: Space,
@@ -144,6 +159,7 @@ unsafe extern "C" {
         window: *const Fpage,
         issued: *mut Issued,
     ) -> u32;
+    /// Maps as the two words of a map item and the word of a receive window say.
     pub fn mapdb_map_words(
         copy: *mut Handle,
         sender: Space,
@@ -153,6 +169,7 @@ unsafe extern "C" {
         window: u64,
         issued: *mut Issued,
     ) -> u32;
+    /// Takes rights from all that received a place from a space, with `flush` from the space too.
     pub fn mapdb_unmap(
         copy: *mut Handle,
         space: Space,
@@ -160,6 +177,7 @@ unsafe extern "C" {
         flush: u32,
         issued: *mut Issued,
     ) -> u32;
+    /// Unmaps the place that a word says.
     pub fn mapdb_unmap_word(
         copy: *mut Handle,
         space: Space,
@@ -167,13 +185,16 @@ unsafe extern "C" {
         flush: u32,
         issued: *mut Issued,
     ) -> u32;
+    /// Ends a space.
     pub fn mapdb_end(copy: *mut Handle, space: Space, issued: *mut Issued) -> u32;
+    /// Takes a batch of operations that other copies issued.
     pub fn mapdb_take(
         copy: *mut Handle,
         operations: *const Operation,
         length: usize,
         taken: *mut Taken,
     ) -> u32;
+    /// Gives what is held, from one mark on up to another.
     pub fn mapdb_give(
         copy: *mut Handle,
         first: u32,
@@ -182,6 +203,7 @@ unsafe extern "C" {
         length: usize,
         count: *mut u64,
     ) -> u32;
+    /// Gives what the copy itself issued, from one mark on up to another.
     pub fn mapdb_give_own(
         copy: *mut Handle,
         first: u32,
@@ -190,8 +212,11 @@ unsafe extern "C" {
         length: usize,
         count: *mut u64,
     ) -> u32;
+    /// How many operations are held, and how many of them are the copy's own.
     pub fn mapdb_counts(copy: *mut Handle, held: *mut u32, own: *mut u32) -> u32;
+    /// What a page is served from.
     pub fn mapdb_served(copy: *mut Handle, space: Space, page: u64, found: *mut Found) -> u32;
+    /// The frames of a page with the rights to each.
     pub fn mapdb_rights(
         copy: *mut Handle,
         space: Space,
@@ -200,11 +225,18 @@ unsafe extern "C" {
         length: usize,
         count: *mut u64,
     ) -> u32;
+    /// The end of the pages that are served as a page is.
     pub fn mapdb_run_end(copy: *mut Handle, space: Space, page: u64, end: *mut u64) -> u32;
+    /// Whether a copy holds all that another one does.
     pub fn mapdb_covers(copy: *mut Handle, other: *mut Handle, answer: *mut bool) -> u32;
+    /// Whether two copies hold the same.
     pub fn mapdb_same(copy: *mut Handle, other: *mut Handle, answer: *mut bool) -> u32;
+    /// The least version of a space's number that has not ended.
     pub fn mapdb_free_version(copy: *mut Handle, number: u32, version: *mut u32) -> u32;
+    /// The translation table of a copy.
     pub fn mapdb_table(copy: *mut Handle, room: *mut Row, length: usize, count: *mut u64) -> u32;
+    /// The text of all that a copy holds.
     pub fn mapdb_snapshot(copy: *mut Handle, room: *mut u8, length: usize, count: *mut u64) -> u32;
+    /// Takes what a snapshot's text says.
     pub fn mapdb_load(copy: *mut Handle, text: *const u8, length: usize, taken: *mut Taken) -> u32;
 }
