@@ -86,7 +86,8 @@ fn end_by<T: AllocGlobal + Threads + Wait + Sync, R: Source, W: Sink, E: Sink>(
           new = E.written errors.new;
           has_failed = E.has_failed errors.new;
         })) }
-    ensures once { R.has_failed reader.new ≡ true → R.has_ended reader.new ≡ R.has_ended reader.old }
+    ensures once { R.has_failed reader.new ≡ true
+        → R.has_ended reader.new ≡ R.has_ended reader.old }
 {
     let code = match words {
         Ok(words) => serve(rt, words.as_slice(), reader, writer, errors),
@@ -126,7 +127,8 @@ pub fn start<
           new = E.written errors.new;
           has_failed = E.has_failed errors.new;
         }) }
-    ensures once { R.has_failed reader.new ≡ true → R.has_ended reader.new ≡ R.has_ended reader.old }
+    ensures once { R.has_failed reader.new ≡ true
+        → R.has_ended reader.new ≡ R.has_ended reader.old }
 {
     end_by(rt, words_of(environment), reader, writer, errors)
 }

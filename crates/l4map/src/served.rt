@@ -127,7 +127,8 @@ fn serve_script<R: Source, W: Sink, E: Sink>(
         × (result ≡ status_of outcome)
         × IsTold (E.written errors.old) (E.written errors.new) (E.has_failed errors.new)
         (message_of outcome) }
-    ensures once { R.has_failed reader.new ≡ true → R.has_ended reader.new ≡ R.has_ended reader.old }
+    ensures once { R.has_failed reader.new ≡ true
+        → R.has_ended reader.new ≡ R.has_ended reader.old }
 {
     let outcome = run(alloc, reader, writer);
     tell(errors, message(&outcome));
@@ -154,7 +155,8 @@ fn serve_threads<T: Threads + Wait + Sync, R: Source, W: Sink, E: Sink>(
         × (result ≡ threads_status outcome)
         × IsTold (E.written errors.old) (E.written errors.new) (E.has_failed errors.new)
         (threads_message outcome) }
-    ensures once { R.has_failed reader.new ≡ true → R.has_ended reader.new ≡ R.has_ended reader.old }
+    ensures once { R.has_failed reader.new ≡ true
+        → R.has_ended reader.new ≡ R.has_ended reader.old }
 {
     let outcome = run_threads(rt, alloc, capacity, reader, writer);
     tell(errors, threads_message(&outcome));
@@ -192,7 +194,8 @@ fn serve_snapshot<R: Source, W: Sink, E: Sink>(
         × (result ≡ snapshot_status outcome)
         × IsTold (E.written errors.old) (E.written errors.new) (E.has_failed errors.new)
         (snapshot_message outcome) }
-    ensures once { R.has_failed reader.new ≡ true → R.has_ended reader.new ≡ R.has_ended reader.old }
+    ensures once { R.has_failed reader.new ≡ true
+        → R.has_ended reader.new ≡ R.has_ended reader.old }
 {
     let outcome = tell_snapshot(alloc, asked, reader, writer);
     tell(errors, snapshot_message(&outcome));
@@ -264,7 +267,8 @@ pub fn serve<T: AllocGlobal + Threads + Wait + Sync, S: AsStr, R: Source, W: Sin
         × Refuses result (E.written errors.old) (E.written errors.new) (E.has_failed errors.new) }
 
     // A reader that has ended is not asked again.
-    ensures once { R.has_failed reader.new ≡ true → R.has_ended reader.new ≡ R.has_ended reader.old }
+    ensures once { R.has_failed reader.new ≡ true
+        → R.has_ended reader.new ≡ R.has_ended reader.old }
 {
     let alloc = rt.alloc();
     match job_of(alloc, words) {

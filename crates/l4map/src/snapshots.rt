@@ -83,7 +83,8 @@ fn read_all<R: Source>(alloc: Global, reader: &mut R) -> Result<Vec<u8>, TellFau
     ensures short { IfOk result (λ bytes. length bytes.items ≤ line_limit) }
     ensures failed { result ≡ Err TellFault.Read → R.has_failed reader.new ≡ true }
     ensures works { (result ≡ Err TellFault.Read) ⊎ (R.has_failed reader.new ≡ false) }
-    ensures once { R.has_failed reader.new ≡ true → R.has_ended reader.new ≡ R.has_ended reader.old }
+    ensures once { R.has_failed reader.new ≡ true
+        → R.has_ended reader.new ≡ R.has_ended reader.old }
 {
     let mut piece = vec![in alloc; 0; READ_AHEAD]?;
     let mut input = Vec::new(alloc);
@@ -138,7 +139,8 @@ pub fn tell_snapshot<R: Source, W: Sink>(
         × TellsSnapshot asked result input text
         (HasEnded (R.has_ended reader.new) (R.left reader.new)) }
     ensures blames { BlamesSnapshot result (R.has_failed reader.new) (W.has_failed writer.new) }
-    ensures once { R.has_failed reader.new ≡ true → R.has_ended reader.new ≡ R.has_ended reader.old }
+    ensures once { R.has_failed reader.new ≡ true
+        → R.has_ended reader.new ≡ R.has_ended reader.old }
 {
     let input = read_all(alloc, reader)?;
     let text = told_text(alloc, asked, input.as_slice())?;

@@ -159,7 +159,8 @@ pub fn run_threads<T: Threads + Wait + Sync, R: Source, W: Sink>(
         × TellsThreads capacity result input text
         (HasEnded (R.has_ended reader.new) (R.left reader.new)) }
     ensures blames { BlamesThreads result (R.has_failed reader.new) (W.has_failed writer.new) }
-    ensures once { R.has_failed reader.new ≡ true → R.has_ended reader.new ≡ R.has_ended reader.old }
+    ensures once { R.has_failed reader.new ≡ true
+        → R.has_ended reader.new ≡ R.has_ended reader.old }
 {
     let scripts = match thread_scripts(alloc, reader) {
         Ok(scripts) => scripts,
