@@ -88,8 +88,8 @@ pub struct Replica {
 unsafe impl Send for Replica {}
 
 impl Replica {
-    /// A copy that holds nothing, of a processor below 64. Give each processor's number to one copy
-    /// alone.
+    /// A copy that holds nothing, of a processor below 64, or else [`Status::BadProcessor`]; or
+    /// [`Status::Memory`]. Give each processor's number to one copy alone.
     pub fn new(processor: u32) -> Result<Replica, Status> {
         let mut handle = Handle {
             at: core::ptr::null_mut(),
@@ -193,7 +193,7 @@ impl Replica {
     }
 
     /// Writes the operations that the copy holds from the mark `first` on up to before `end`, and
-    /// answers how many they are.
+    /// answers how many they are. Marks that are none are refused ([`Status::BadMark`]).
     pub fn give(
         &mut self,
         first: u32,
@@ -245,7 +245,8 @@ impl Replica {
         (held, own)
     }
 
-    /// The frame that a page of a space is served from, with its rights there, if it is served.
+    /// The frame that a page of a space is served from, with its rights there, if it is served. The
+    /// only error is [`Status::BadSpace`].
     pub fn served(&mut self, space: Space, page: u64) -> Result<Option<Found>, Status> {
         let mut found = Found::default();
         // SAFETY: as of `map`.
@@ -259,6 +260,8 @@ impl Replica {
 
     /// One past the last page up to which what a page of a space is served from goes on from this
     /// page: nothing at any of them, or frames that rise by one with each page, with equal rights.
+    /// The errors are [`Status::BadSpace`], and [`Status::PageOutOfSpace`] for a page of 2^36 or
+    /// more.
     pub fn run_end(&mut self, space: Space, page: u64) -> Result<u64, Status> {
         let mut end = 0;
         // SAFETY: as of `map`.
@@ -268,7 +271,7 @@ impl Replica {
     }
 
     /// Writes each frame that the space has some right to at the page, ascending, and answers how
-    /// many they are.
+    /// many they are. It is refused for the space ([`Status::BadSpace`]) or for want of memory.
     pub fn rights(
         &mut self,
         space: Space,
@@ -317,7 +320,7 @@ impl Replica {
 
     /// Writes the translation table: for each space ascending, and ascending by page, the longest
     /// runs of pages that are served from frames that rise by one, with equal rights. It answers
-    /// how many rows there are.
+    /// how many rows there are, and is refused only for want of memory.
     pub fn table(&mut self, room: &mut [Row]) -> Result<usize, RoomError> {
         let mut count = 0;
         // SAFETY: as of `take`.
@@ -327,7 +330,8 @@ impl Replica {
         room_answer(number, count)
     }
 
-    /// Writes the snapshot of the copy, a text in UTF-8, and answers how long it is.
+    /// Writes the snapshot of the copy, a text in UTF-8, and answers how long it is. It is refused
+    /// only for want of memory.
     pub fn snapshot(&mut self, room: &mut [u8]) -> Result<usize, RoomError> {
         let mut count = 0;
         // SAFETY: as of `take`.

@@ -3,8 +3,8 @@
 mod heap;
 
 use mapdb::{
-    Fpage, IssueError, Operation, READ, RECORD, Records, Replica, RoomError, Row, Space, Status,
-    TakeError, WRITE,
+    Fpage, Found, IssueError, Operation, READ, RECORD, Records, Replica, RoomError, Row, Space,
+    Status, TakeError, WRITE,
 };
 
 const ROOT: Space = Space::ROOT;
@@ -39,6 +39,24 @@ fn maps_and_serves() {
     assert_eq!(replica.unmap_word(ROOT, 0x100c2, false), Ok(1));
     assert_eq!(replica.served(ONE, 0x48).unwrap().unwrap().rights, READ);
     assert_eq!(replica.counts(), (2, 2));
+}
+
+#[test]
+fn maps_by_words() {
+    let mut replica = Replica::new(0).unwrap();
+    let records = replica.map_words(ROOT, [0x8008, 0x100e6], ONE, 0x40100);
+    assert_eq!(records, Ok(Records { first: 1, count: 1 }));
+    let mut room = [Found::default(); 1];
+    assert_eq!(replica.rights(ONE, 0x48, &mut room), Ok(1));
+    assert_eq!((room[0].frame, room[0].rights), (0x10, READ | WRITE));
+    assert_eq!(replica.run_end(ONE, 0x48), Ok(0x4c));
+    let window = Fpage {
+        address: 0x40000,
+        order: 16,
+        rights: WRITE,
+    };
+    assert_eq!(replica.unmap(ONE, &window, true), Ok(1));
+    assert_eq!(replica.served(ONE, 0x48).unwrap().unwrap().rights, READ);
 }
 
 #[test]

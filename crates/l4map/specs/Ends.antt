@@ -6,12 +6,14 @@ use Rattle.std.specs.declared.io.ErrorKind.TheVariants as io_kind
 use Rattle.mapdb_script.specs.Run.{HasEnded, TellsRun}
 use Rattle.mapdb_script.specs.declared.faults.ScriptFault.{ScriptFault}
 use Rattle.mapdb_script.specs.declared.faults.Summary.{Summary}
-use Rattle.l4map.specs.Snapshots.{BlamesSnapshot, TellsSnapshot, snapshot_message, snapshot_status}
-use Rattle.l4map.specs.Statuses.{BlamesFailed, IsTold, Refuses, TellsOutOfMemory, message_of}
-use Rattle.l4map.specs.Statuses.{status_of, words_message}
-use Rattle.l4map.specs.Threaded.{BlamesThreads, TellsThreads, threads_message, threads_status}
+use Rattle.l4map.specs.Snapshots.{BlamesSnapshot, TellsSnapshot, snapshot_ending, snapshot_message}
+use Rattle.l4map.specs.Statuses.{BlamesFailed, IsTold, Refuses, TellsOutOfMemory, ending_of}
+use Rattle.l4map.specs.Statuses.{message_of, words_message}
+use Rattle.l4map.specs.Threaded.{BlamesThreads, TellsThreads, threads_ending, threads_message}
 use Rattle.l4map.specs.declared.commands.Job.{Job}
 use Rattle.l4map.specs.declared.commands.Job.TheVariants.{Run, Tell, Threads}
+use Rattle.l4map.specs.declared.endings.Ending.{Ending}
+use Rattle.l4map.specs.declared.endings.Ending.TheVariants.{Refused}
 use Rattle.l4map.specs.declared.snapshots.Asked.{Asked}
 use Rattle.l4map.specs.declared.snapshots.TellFault.{TellFault}
 use Rattle.l4map.specs.declared.threaded.ThreadsFault.{ThreadsFault}
@@ -29,55 +31,66 @@ pub record Taken : Type 0 where
   pub new : Option (List ℕ)
   pub has_failed : Bool
 
+abbrev pub given : Option (List ℕ) → Option (List ℕ) → Bool → Bool → Given
+given old new has_ended has_failed = record {
+  old = old;
+  new = new;
+  has_ended = has_ended;
+  has_failed = has_failed;
+}
+
+abbrev pub taken : Option (List ℕ) → Option (List ℕ) → Bool → Taken
+taken old new has_failed = record { old = old; new = new; has_failed = has_failed }
+
 -- how a run of a script ends
-abbrev pub EndsRun : ℕ → Given → Taken → Taken → Type 0
-EndsRun status reader writer errors =
+abbrev pub EndsRun : Ending → Given → Taken → Taken → Type 0
+EndsRun ending reader writer errors =
     (outcome : Result Summary ScriptFault) × (input text : List ℕ)
     × Consumes reader.old reader.new input × Appends writer.old writer.new text
     × TellsRun outcome input text (HasEnded reader.has_ended reader.new)
-    × BlamesFailed outcome reader.has_failed writer.has_failed × (status ≡ status_of outcome)
+    × BlamesFailed outcome reader.has_failed writer.has_failed × (ending ≡ ending_of outcome)
     × IsTold errors.old errors.new errors.has_failed (message_of outcome)
 
 -- how a script in threads ends
-abbrev pub EndsThreads : ℕ → ℕ → Given → Taken → Taken → Type 0
-EndsThreads capacity status reader writer errors =
+abbrev pub EndsThreads : ℕ → Ending → Given → Taken → Taken → Type 0
+EndsThreads capacity ending reader writer errors =
     (outcome : Result (Unit {0}) ThreadsFault) × (input text : List ℕ)
     × Consumes reader.old reader.new input × Appends writer.old writer.new text
     × TellsThreads capacity outcome input text (HasEnded reader.has_ended reader.new)
     × BlamesThreads outcome reader.has_failed writer.has_failed
-    × (status ≡ threads_status outcome)
+    × (ending ≡ threads_ending outcome)
     × IsTold errors.old errors.new errors.has_failed (threads_message outcome)
 
 -- how it ends that something is asked of a snapshot
-abbrev pub EndsTell : Asked → ℕ → Given → Taken → Taken → Type 0
-EndsTell asked status reader writer errors =
+abbrev pub EndsTell : Asked → Ending → Given → Taken → Taken → Type 0
+EndsTell asked ending reader writer errors =
     (outcome : Result (Unit {0}) TellFault) × (input text : List ℕ)
     × Consumes reader.old reader.new input × Appends writer.old writer.new text
     × TellsSnapshot asked outcome input text (HasEnded reader.has_ended reader.new)
     × BlamesSnapshot outcome reader.has_failed writer.has_failed
-    × (status ≡ snapshot_status outcome)
+    × (ending ≡ snapshot_ending outcome)
     × IsTold errors.old errors.new errors.has_failed (snapshot_message outcome)
 
 -- memory ran out before anything was read or written: `Unused` says that nothing was
-abbrev pub RanOut : ℕ → Type 0 → Taken → Type 0
-RanOut status Unused errors = Unused
-    × TellsOutOfMemory status errors.old errors.new errors.has_failed
+abbrev pub RanOut : Ending → Type 0 → Taken → Type 0
+RanOut ending Unused errors = Unused
+    × TellsOutOfMemory ending errors.old errors.new errors.has_failed
 
 -- how the program ends where clap reads its words as this job, or refuses them
-abbrev pub EndsFor : Option Job → ℕ → Type 0 → Given → Taken → Taken → Type 0
-EndsFor None status Unused reader writer errors = Unused
-    × Refuses status errors.old errors.new errors.has_failed
-EndsFor (Some Run) status Unused reader writer errors = RanOut status Unused errors
-    ⊎ EndsRun status reader writer errors
-EndsFor (Some (Threads capacity)) status Unused reader writer errors = RanOut status Unused errors
-    ⊎ EndsThreads capacity status reader writer errors
-EndsFor (Some (Tell asked)) status Unused reader writer errors = RanOut status Unused errors
-    ⊎ EndsTell asked status reader writer errors
+abbrev pub EndsFor : Option Job → Ending → Type 0 → Given → Taken → Taken → Type 0
+EndsFor None ending Unused reader writer errors = Unused
+    × Refuses ending errors.old errors.new errors.has_failed
+EndsFor (Some Run) ending Unused reader writer errors = RanOut ending Unused errors
+    ⊎ EndsRun ending reader writer errors
+EndsFor (Some (Threads capacity)) ending Unused reader writer errors = RanOut ending Unused errors
+    ⊎ EndsThreads capacity ending reader writer errors
+EndsFor (Some (Tell asked)) ending Unused reader writer errors = RanOut ending Unused errors
+    ⊎ EndsTell asked ending reader writer errors
 
 -- how it ends where there are no words, since memory ran out or one is no UTF-8
-abbrev pub EndsUnread : ErrorKind → ℕ → Type 0 → Taken → Type 0
-EndsUnread kind status Unused errors = Unused
-    × (kind ≡ io_kind.OutOfMemory → TellsOutOfMemory status errors.old errors.new errors.has_failed)
-    × (kind ≢ io_kind.OutOfMemory → (status ≡ 2)
+abbrev pub EndsUnread : ErrorKind → Ending → Type 0 → Taken → Type 0
+EndsUnread kind ending Unused errors = Unused
+    × (kind ≡ io_kind.OutOfMemory → TellsOutOfMemory ending errors.old errors.new errors.has_failed)
+    × (kind ≢ io_kind.OutOfMemory → (ending ≡ Refused)
     × IsTold errors.old errors.new errors.has_failed words_message)
-    × Refuses status errors.old errors.new errors.has_failed
+    × Refuses ending errors.old errors.new errors.has_failed

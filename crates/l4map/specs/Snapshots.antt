@@ -15,6 +15,9 @@ use Rattle.mapdb_replica.specs.declared.faults.TakeFault.{TakeFault}
 use Rattle.mapdb_replica.specs.declared.faults.TakeFault.TheVariants as take
 use Rattle.mapdb_script.specs.Reply.{bad_name, snapshot_name}
 use Rattle.l4map.specs.Statuses.{memory_message, message_of}
+use Rattle.l4map.specs.declared.endings.Ending.{Ending}
+use Rattle.l4map.specs.declared.endings.Ending.TheVariants.{Done, Faulty, OutOfMemory}
+use Rattle.l4map.specs.declared.endings.Ending.TheVariants.{StreamFailed}
 use Rattle.l4map.specs.declared.snapshots.Asked.{Asked}
 use Rattle.l4map.specs.declared.snapshots.Asked.TheVariants.{Page, Picture}
 use Rattle.l4map.specs.declared.snapshots.TellFault.{TellFault}
@@ -75,18 +78,18 @@ BlamesSnapshot outcome reader_failed writer_failed =
     ((outcome ≡ Err Read) ↔ (reader_failed ≡ true))
     × ((outcome ≡ Err Write) ↔ (writer_failed ≡ true))
 
--- the status where a text is no snapshot that a copy can hold
-abbrev pub load_status : LoadFault → ℕ
-load_status Memory = 4
-load_status (Snapshot fault) = 1
-load_status (Take fault) = 1
+-- how the program ends where a text is no snapshot that a copy can hold
+abbrev pub load_ending : LoadFault → Ending
+load_ending Memory = OutOfMemory
+load_ending (Snapshot fault) = Faulty
+load_ending (Take fault) = Faulty
 
-abbrev pub snapshot_status : Result (Unit {0}) TellFault → ℕ
-snapshot_status (Ok done) = 0
-snapshot_status (Err Read) = 3
-snapshot_status (Err Write) = 3
-snapshot_status (Err TooLong) = 1
-snapshot_status (Err (Load fault)) = load_status fault
+abbrev pub snapshot_ending : Result (Unit {0}) TellFault → Ending
+snapshot_ending (Ok done) = Done
+snapshot_ending (Err Read) = StreamFailed
+snapshot_ending (Err Write) = StreamFailed
+snapshot_ending (Err TooLong) = Faulty
+snapshot_ending (Err (Load fault)) = load_ending fault
 
 -- what is told where an operation of a snapshot is not well-formed
 abbrev pub bad_message : OpFault → List ℕ

@@ -1,4 +1,4 @@
--- The statuses of the program, and what it tells on the errors.
+-- How the program ends, with which status, and what it tells on the errors.
 use Rattle.std.specs.Prelude.{◌≡◌, ◌⊎◌, ◌↔◌, ℕ, List, [], Bool, true, false, Option, Result, Ok}
 use Rattle.std.specs.Prelude.{Err, codes}
 use Rattle.std.specs.Io.KnownBytes.{Appends}
@@ -18,13 +18,13 @@ ending_status Refused = 2
 ending_status StreamFailed = 3
 ending_status OutOfMemory = 4
 
--- the status of a run
-abbrev pub status_of : Result Summary ScriptFault → ℕ
-status_of (Ok summary) = 0
-status_of (Err (fault.Line number f)) = 1
-status_of (Err fault.Read) = 3
-status_of (Err fault.Write) = 3
-status_of (Err fault.Memory) = 4
+-- how the program ends, by the outcome of a run
+abbrev pub ending_of : Result Summary ScriptFault → Ending
+ending_of (Ok summary) = Done
+ending_of (Err (fault.Line number f)) = Faulty
+ending_of (Err fault.Read) = StreamFailed
+ending_of (Err fault.Write) = StreamFailed
+ending_of (Err fault.Memory) = OutOfMemory
 
 -- what is told where memory ran out
 abbrev pub memory_message : List ℕ
@@ -50,14 +50,15 @@ IsTold old new has_failed message =
     × (has_failed ≡ false → text ≡ message)
 
 -- Memory ran out, which is told.
-abbrev pub TellsOutOfMemory : ℕ → Option (List ℕ) → Option (List ℕ) → Bool → Type 0
-TellsOutOfMemory status old new has_failed = (status ≡ 4) × IsTold old new has_failed memory_message
+abbrev pub TellsOutOfMemory : Ending → Option (List ℕ) → Option (List ℕ) → Bool → Type 0
+TellsOutOfMemory ending old new has_failed = (ending ≡ OutOfMemory)
+    × IsTold old new has_failed memory_message
 
 -- Words were refused, which a text of clap's tells, or there was no memory to refuse them.
-abbrev pub Refuses : ℕ → Option (List ℕ) → Option (List ℕ) → Bool → Type 0
-Refuses status old new has_failed =
-    ((status ≡ 2) × ((text : List ℕ) × IsTold old new has_failed text))
-    ⊎ TellsOutOfMemory status old new has_failed
+abbrev pub Refuses : Ending → Option (List ℕ) → Option (List ℕ) → Bool → Type 0
+Refuses ending old new has_failed =
+    ((ending ≡ Refused) × ((text : List ℕ) × IsTold old new has_failed text))
+    ⊎ TellsOutOfMemory ending old new has_failed
 
 -- A run blames the reader or the writer exactly where that one has failed.
 abbrev pub BlamesFailed : Result Summary ScriptFault → Bool → Bool → Type 0

@@ -14,7 +14,9 @@ use Rattle.mapdb_script.specs.Answering.{reply_line}
 use Rattle.mapdb_script.specs.Reply.{same_text}
 use Rattle.mapdb_script.specs.Script.{fault_line}
 use Rattle.mapdb_script.specs.Threading.{HasTaken, IsFaulty, scripts_of}
-use Rattle.l4map.specs.Statuses.{memory_message, message_of, status_of}
+use Rattle.l4map.specs.Statuses.{ending_of, memory_message, message_of}
+use Rattle.l4map.specs.declared.endings.Ending.{Ending}
+use Rattle.l4map.specs.declared.endings.Ending.TheVariants.{Done, Faulty, OutOfMemory}
 use Rattle.l4map.specs.declared.threaded.ThreadsFault.{ThreadsFault}
 use Rattle.l4map.specs.declared.threaded.ThreadsFault.TheVariants.{Run, Script}
 
@@ -38,7 +40,8 @@ IsReport capacity input text =
     × IsCount (length scripts) capacity
     × AreParts scripts parts × HoldSame parts × (text ≡ report_text parts)
 
--- the line that tells the fault of the input's first faulty line; `Over` says that the reader is over
+-- the line that tells the fault of the input's first faulty line; `Over` says that the reader is
+-- over
 abbrev pub IsFaultLine : List ℕ → List ℕ → Type 0 → Type 0
 IsFaultLine input text Over = (number : ℕ) × (f : _) × IsFaulty number f input Over
     × (text ≡ fault_line number f)
@@ -63,9 +66,9 @@ IsTextWritten (Err (Script script.Read)) whole front = ⊥
 IsTextWritten (Err (Script (script.Line number f))) whole front = ⊥
 IsTextWritten (Err (Run why)) whole front = ⊥
 
--- What was written for an input of which this was read; `Over` says that the reader is over. Nothing
--- is written where the exchange gives no report; the count is at fault exactly where there are none
--- or too many scripts.
+-- What was written for an input of which this was read; `Over` says that the reader is over.
+-- Nothing is written where the exchange gives no report; the count is at fault exactly where there
+-- are none or too many scripts.
 abbrev pub AnswersThreads : ℕ → Result (Unit {0}) ThreadsFault → List ℕ → List ℕ → Type 0 → Type 0
 AnswersThreads capacity (Ok done) input text Over = Over × IsReport capacity input text
 AnswersThreads capacity (Err (Script (script.Line number f))) input text Over =
@@ -92,20 +95,20 @@ BlamesThreads outcome reader_failed writer_failed =
     ((outcome ≡ Err read_failed) ↔ (reader_failed ≡ true))
     × ((outcome ≡ Err write_failed) ↔ (writer_failed ≡ true))
 
--- the status of a run that gave no report
-abbrev pub run_status : RunFault → ℕ
-run_status run.BadCount = 1
-run_status run.Memory = 4
-run_status run.NoThread = 1
-run_status (run.Node why) = 1
-run_status run.Gate = 1
-run_status run.Link = 1
+-- how the program ends where a run gave no report
+abbrev pub run_ending : RunFault → Ending
+run_ending run.BadCount = Faulty
+run_ending run.Memory = OutOfMemory
+run_ending run.NoThread = Faulty
+run_ending (run.Node why) = Faulty
+run_ending run.Gate = Faulty
+run_ending run.Link = Faulty
 
--- the status of a script in threads
-abbrev pub threads_status : Result (Unit {0}) ThreadsFault → ℕ
-threads_status (Ok done) = 0
-threads_status (Err (Script fault)) = status_of (Err fault)
-threads_status (Err (Run why)) = run_status why
+-- how the program ends, by the outcome of a script in threads
+abbrev pub threads_ending : Result (Unit {0}) ThreadsFault → Ending
+threads_ending (Ok done) = Done
+threads_ending (Err (Script fault)) = ending_of (Err fault)
+threads_ending (Err (Run why)) = run_ending why
 
 -- what is told of a run that gave no report
 abbrev pub run_message : RunFault → List ℕ

@@ -8,9 +8,10 @@ ghost use Rattle.l4map.specs.Statuses.{ending_status};
 pub enum Ending {
     /// All was done.
     Done,
-    /// A line of the script is at fault, a run in threads gave no report, or a snapshot is none.
+    /// A line of the script is at fault, a run in threads gave no report, but not since memory ran
+    /// out, or the input is no snapshot that a copy can hold.
     Faulty,
-    /// The words were refused, or they call for help.
+    /// The words were refused, also since one is no UTF-8, or they call for help or the version.
     Refused,
     /// The reader or the writer failed.
     StreamFailed,

@@ -4,9 +4,10 @@
 ghost use Rattle.std.specs.Prelude.{◌≡◌, Option, false, true, map, IfOk, IfErr};
 ghost use Rattle.std.specs.IoError.{error_kind};
 ghost use Rattle.l4map.specs.Commands.{job_in};
-ghost use Rattle.l4map.specs.Ends.{EndsFor, EndsUnread};
+ghost use Rattle.l4map.specs.Ends.{EndsFor, EndsUnread, given, taken};
 ghost use Rattle.l4map.specs.declared.commands.Job.{Job};
 
+use crate::endings::Ending;
 use crate::served::{refuse_unread, serve};
 use mapdb_script::{Sink, Source, ToWrite};
 use std::alloc::Global;
@@ -28,18 +29,19 @@ impl ErrorSink for ToWrite<Stderr> {}
 /// another.
 #[derive(Drop)]
 pub struct Status {
-    code: u8,
+    ending: Ending,
 }
 
 impl Termination for Status {
     ghost use Rattle.std.specs.Prelude.{◌≡◌};
     ghost use Rattle.std.specs.Process.{exit_status};
+    ghost use Rattle.l4map.specs.Statuses.{ending_status};
 
-    /// The exit status is this one.
+    /// The exit status is that of how the program ended.
     fn report<R: Eprint>(self, _rt: &R) -> ExitCode
-        ensures { exit_status result ≡ self.code }
+        ensures { exit_status result ≡ ending_status self.ending }
     {
-        ExitCode::from(self.code)
+        ExitCode::from(self.ending.status())
     }
 }
 
@@ -48,9 +50,9 @@ fn words_of(environment: &(impl Env + Alloc<A = Global>)) -> io::Result<Vec<Stri
     Ok(env::args(environment)?.collect(environment.alloc())?)
 }
 
-/// Does what these words ask for, and answers the status, as [`serve`] says. Where there are none,
-/// nothing is read or written, and the status is 4 where memory ran out, else 2, since one is no
-/// UTF-8. It waits only for `threads`.
+/// Does what these words ask for. The status is that of the [`Ending`] which [`serve`] answers.
+/// Where there are no words, nothing is read or written, and it is that of memory that ran out, or
+/// of words that were refused, since one is no UTF-8. It waits only for `threads`.
 fn end_by<T: AllocGlobal + Threads + Wait + Sync, R: Source, W: Sink, E: Sink>(
     rt: &T,
     words: io::Result<Vec<String>>,
@@ -60,46 +62,30 @@ fn end_by<T: AllocGlobal + Threads + Wait + Sync, R: Source, W: Sink, E: Sink>(
 ) -> Status
     requires reader_works { R.has_failed reader.old ≡ false }
     requires writer_works { W.has_failed writer.old ≡ false }
-    ensures words { IfOk words (λ given. EndsFor
-        (job_in (map ⟦<String as AsStr>⟧.text given.items)) result.code
+    ensures words { IfOk words (λ list. EndsFor
+        (job_in (map ⟦<String as AsStr>⟧.text list.items)) result.ending
         ((reader.new ≡ reader.old) × (writer.new ≡ writer.old))
-        (record {
-          old = R.left reader.old;
-          new = R.left reader.new;
-          has_ended = R.has_ended reader.new;
-          has_failed = R.has_failed reader.new;
-        })
-        (record {
-          old = W.written writer.old;
-          new = W.written writer.new;
-          has_failed = W.has_failed writer.new;
-        })
-        (record {
-          old = E.written errors.old;
-          new = E.written errors.new;
-          has_failed = E.has_failed errors.new;
-        })) }
-    ensures unread { IfErr words (λ error. EndsUnread (error_kind error) result.code
+        (given (R.left reader.old) (R.left reader.new) (R.has_ended reader.new)
+        (R.has_failed reader.new))
+        (taken (W.written writer.old) (W.written writer.new) (W.has_failed writer.new))
+        (taken (E.written errors.old) (E.written errors.new) (E.has_failed errors.new))) }
+    ensures unread { IfErr words (λ error. EndsUnread (error_kind error) result.ending
         ((reader.new ≡ reader.old) × (writer.new ≡ writer.old))
-        (record {
-          old = E.written errors.old;
-          new = E.written errors.new;
-          has_failed = E.has_failed errors.new;
-        })) }
+        (taken (E.written errors.old) (E.written errors.new) (E.has_failed errors.new))) }
     ensures once { R.has_failed reader.new ≡ true
         → R.has_ended reader.new ≡ R.has_ended reader.old }
 {
-    let code = match words {
+    let ending = match words {
         Ok(words) => serve(rt, words.as_slice(), reader, writer, errors),
         Err(error) => refuse_unread(error.kind(), errors),
     };
-    Status { code }
+    Status { ending }
 }
 
-/// Does what the words of the command line ask for, and answers the status, as [`serve`] says.
-/// Where the words cannot be had, nothing is read or written, and the status is 4 where memory ran
-/// out, else 2, since one is no UTF-8 (`end_by`). Which words there are is the environment's. It
-/// waits only for `threads`.
+/// Does what the words of the command line ask for. The status is that of the [`Ending`] which
+/// [`serve`] answers. Where the words cannot be had, nothing is read or written, and it is that of
+/// memory that ran out, or of words that were refused, since one is no UTF-8 (`end_by`). Which
+/// words there are is the environment's. It waits only for `threads`.
 pub fn start<
     T: AllocGlobal + Threads + Wait + Sync,
     V: Env + AllocGlobal,
@@ -109,24 +95,12 @@ pub fn start<
 >(rt: &T, environment: &V, reader: &mut R, writer: &mut W, errors: &mut E) -> Status
     requires reader_works { R.has_failed reader.old ≡ false }
     requires writer_works { W.has_failed writer.old ≡ false }
-    ensures ends { (job : Option Job) × EndsFor job result.code
+    ensures ends { (job : Option Job) × EndsFor job result.ending
         ((reader.new ≡ reader.old) × (writer.new ≡ writer.old))
-        (record {
-          old = R.left reader.old;
-          new = R.left reader.new;
-          has_ended = R.has_ended reader.new;
-          has_failed = R.has_failed reader.new;
-        })
-        (record {
-          old = W.written writer.old;
-          new = W.written writer.new;
-          has_failed = W.has_failed writer.new;
-        })
-        (record {
-          old = E.written errors.old;
-          new = E.written errors.new;
-          has_failed = E.has_failed errors.new;
-        }) }
+        (given (R.left reader.old) (R.left reader.new) (R.has_ended reader.new)
+        (R.has_failed reader.new))
+        (taken (W.written writer.old) (W.written writer.new) (W.has_failed writer.new))
+        (taken (E.written errors.old) (E.written errors.new) (E.has_failed errors.new)) }
     ensures once { R.has_failed reader.new ≡ true
         → R.has_ended reader.new ≡ R.has_ended reader.old }
 {

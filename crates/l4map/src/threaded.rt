@@ -57,7 +57,7 @@ fn push_line(text: &mut String, line: &str) -> Result<(), AllocError>
     text.push_str("\n")
 }
 
-/// Whether two copies that hold the same are seen to.
+/// Whether the copies of two parts hold the same.
 fn is_same(part: &Part, other: &Part) -> bool
     ensures { SameAtoms part.now.history.copy.ops other.now.history.copy.ops → result ≡ true }
 {

@@ -15,6 +15,7 @@ ghost use Rattle.mapdb_c.specs.declared.statuses.Status.{Status};
 ghost use Rattle.mapdb_c.specs.declared.statuses.Status.TheVariants as status;
 
 use crate::handles::Handle;
+use crate::limits::SPACE_LIMIT;
 use crate::raw_places::{RawSpace, space_of};
 use crate::statuses::Status;
 use mapdb_facts::Space;
@@ -161,7 +162,7 @@ pub extern "C" fn mapdb_counts(
 fn number_within(number: u32) -> Result<u16, Status>
     ensures { result ≡ number_within number }
 {
-    if number >= 1 << 16 {
+    if number >= SPACE_LIMIT {
         return Err(Status::BadSpace);
     }
     Ok(number as u16)

@@ -37,7 +37,8 @@ impl Model for Cluster {
     }) };
 }
 
-/// Copies that hold nothing, of processors from 0 on. There are at most 64 processors.
+/// Copies that hold nothing, of processors from 0 on. There are at most 64 processors. The only
+/// error is that memory ran out.
 #[tactic(auto, using(crate::proofs::Steps::NewCopies::one_copy_more))]
 pub fn new_copies(alloc: Global, count: u8) -> Result<Vec<Replica>, AllocError>
     requires { count ≤ PROCESSOR_LIMIT }
@@ -58,7 +59,7 @@ impl Cluster {
     ghost use Rattle.mapdb_cluster.specs.declared.events.Event.TheVariants as event;
 
     /// Copies that hold nothing, of processors from 0 on, and no messages. There are at most 64
-    /// processors.
+    /// processors. The only error is that memory ran out.
     pub fn new(alloc: Global, processors: u8) -> Result<Cluster, AllocError>
         requires some { 0 < processors }
         requires most { processors ≤ PROCESSOR_LIMIT }

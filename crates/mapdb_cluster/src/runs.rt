@@ -47,7 +47,7 @@ impl Cluster {
     {
         let mut replies = Vec::new(self.alloc);
         for (done, event) in events.iter().enumerate() {
-            if let Err(_) = replies.reserve(1) {
+            if replies.reserve(1).is_err() {
                 return Err(RunFault::Memory { done });
             }
             let reply = self.step(event);

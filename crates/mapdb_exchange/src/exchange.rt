@@ -43,10 +43,7 @@ pub fn run<R: Threads + Wait + Sync, G: Gate + Sync>(
     if !is_count(scripts.len(), capacity) {
         return Err(RunFault::BadCount);
     }
-    match run_scripts(rt, alloc, scripts, capacity, gate) {
-        Ok(report) => Ok(report),
-        Err(fault) => Err(RunFault::from(fault)),
-    }
+    Ok(run_scripts(rt, alloc, scripts, capacity, gate)?)
 }
 
 /// Whether an exchange may have so many processors, and links of this capacity.

@@ -2,8 +2,8 @@
 
 ghost use Rattle.std.specs.Prelude.{◌≡◌, ◌⊎◌, ◌++◌, length, map, IfErr, IfOk, OnOk};
 ghost use Rattle.mapdb_exchange.specs.Calls.{IsIssuingFault, IsReadingFault, IsSendingFault};
-ghost use Rattle.mapdb_exchange.specs.Calls.{IsToldSince, commands_in, faults_in, issued_in, own_in};
-ghost use Rattle.mapdb_exchange.specs.Calls.{place_after};
+ghost use Rattle.mapdb_exchange.specs.Calls.{IsToldSince, commands_in, faults_in, issued_in};
+ghost use Rattle.mapdb_exchange.specs.Calls.{own_in, place_after};
 ghost use Rattle.mapdb_exchange.specs.Finishing.{AreFinished, sent_on};
 
 use crate::faults::{NodeFault, WorkFault};
@@ -104,10 +104,9 @@ fn own_ops<R: Wait>(
 fn place_after(first: u32, count: u32) -> Result<u32, WorkFault>
     ensures { result ≡ place_after first count }
 {
-    match first.checked_add(count) {
-        Some(place) => Ok(place),
-        None => Err(WorkFault::Node(NodeFault::Own)),
-    }
+    first
+        .checked_add(count)
+        .ok_or(WorkFault::Node(NodeFault::Own))
 }
 
 /// The own operation that a reply tells.

@@ -122,7 +122,8 @@ pub fn link<R: Wait>(
 }
 
 impl Outgoing {
-    /// Puts a message at the back. It waits while the link is full.
+    /// Puts a message at the back. It waits while the link is full. Behind [`Message::Fin`], or
+    /// where the other end is gone, the message is handed back, as [`PutFault`] tells.
     pub fn put<R: Wait>(&mut self, rt: &R, message: Message) -> Result<(), PutFault>
         ensures put { IfOk result (λ _. self.new.put ≡ self.old.put ++ message ∷ []) }
         ensures kept { OnErr result (self.new.put ≡ self.old.put) }
@@ -146,7 +147,8 @@ impl Outgoing {
 }
 
 impl Incoming {
-    /// Receives the message at the front. It waits while there is none.
+    /// Receives the message at the front. It waits while there is none. Behind [`Message::Fin`], or
+    /// where the other end is gone, there is none, as [`NextFault`] tells.
     pub fn next<R: Wait>(&mut self, rt: &R) -> Result<Message, NextFault>
         ensures received { IfOk result (λ message. self.new.received
             ≡ self.old.received ++ message ∷ []) }

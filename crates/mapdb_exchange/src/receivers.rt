@@ -109,7 +109,7 @@ fn take_all<R: Wait>(rt: &R, node: &Node, seat: &mut Seat, ops: &[Op]) -> Result
     Ok(())
 }
 
-/// Sees to it that an operation is held, by the reply to its Take.
+/// Ok where the reply to a Take tells that the operation is held, and else the fault that it tells.
 fn see_taken(reply: &NodeReply) -> Result<(), WorkFault>
     ensures { result ≡ taken_in reply.now }
 {

@@ -57,9 +57,7 @@ impl BatchSender {
         ensures link { self.new.end.link ≡ self.old.end.link }
         ensures fault { IfErr result (λ fault. fault ≡ WorkFault.Link) }
     {
-        let Some(next) = self.next.checked_add(1) else {
-            return Err(WorkFault::Link);
-        };
+        let next = self.next.checked_add(1).ok_or(WorkFault::Link)?;
         let batch = Batch {
             from: self.from,
             to: self.to,

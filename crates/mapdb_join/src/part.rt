@@ -1,6 +1,6 @@
 //! Values that take one part at a time.
-ghost use Rattle.std.specs.Prelude.{◌≡◌, [], ◌∷◌, false, true, OnOk, OnErr, IfOk, IfErr, IsOk, IsOkAnd};
-ghost use Rattle.std.specs.Prelude.{None};
+ghost use Rattle.std.specs.Prelude.{◌≡◌, [], ◌∷◌, false, true, OnOk, OnErr, IfOk, IfErr, IsOk};
+ghost use Rattle.std.specs.Prelude.{IsOkAnd, None};
 ghost use Rattle.std.specs.Map.{lookup};
 ghost use Rattle.std.specs.BTreeMap.{is_at};
 ghost use Rattle.mapdb_join.specs.Atoms.{IsSame, IsUnion, Clashes};

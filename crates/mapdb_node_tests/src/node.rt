@@ -1,7 +1,7 @@
 //! What no contract says of nodes: that their calls succeed, and what threads that share one leave.
 //!
-//! Events are made before nodes, assertions stand in functions of their own, and tests are short: a
-//! test with many borrows and ways out is long to prove.
+//! Assertions stand in functions of their own, and tests are short: a test with many borrows and
+//! ways out is long to prove.
 
 use mapdb_facts::Space;
 use mapdb_fpage::{Fpage, MapItem, PAGE_BYTES, Rights};

@@ -15,10 +15,10 @@ pub struct Pair {
 
 /// A copy beside the wanted one, where there is one.
 fn beside(wanted: Option<Replica>, copy: Replica) -> Option<Pair> {
-    match wanted {
-        Some(wanted) => Some(Pair { wanted, copy }),
-        None => None,
-    }
+    Some(Pair {
+        wanted: wanted?,
+        copy,
+    })
 }
 
 /// A copy after these commands, where the wanted one did a last one too.

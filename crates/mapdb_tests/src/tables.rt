@@ -1,5 +1,5 @@
-//! Tables of many spaces and of all pages. Both builds are asked, and events are made before
-//! copies: tests are short, since a test with many borrows is long to prove.
+//! Tables of many spaces and of all pages. Both builds are asked. Tests are short, since one with
+//! many borrows is long to prove.
 
 use crate::commands::{place, space};
 use mapdb_fpage::{Fpage, MapItem, Rights};
