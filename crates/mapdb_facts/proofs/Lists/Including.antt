@@ -19,8 +19,8 @@ TakesAll mine theirs = (id : RecordId) (page : ℕ) (right : Right) → cut_in t
 
 pub included_records : (mine theirs : Kept) → Formed theirs.records → Includes (state_of_facts mine) (state_of_facts theirs) → HasAll has_record mine.records theirs.records
 included_records mine theirs formed all x h =
-    let id : RecordId = record { number = x.0; processor = x.1.0 } in
-    let s : Record = x.1.1 in
+    let id : RecordId = x.0 in
+    let s : Record = x.1 in
     let at : record_in theirs.records id ≡ Some s = record_of_atom theirs.records id s h in
     let own = (formed id s at).0 in
     atom_of_record mine.records id s (subst (λ y. record_in mine.records y ≡ Some s) own (all (Rec s) (subst (λ y. record_in theirs.records y ≡ Some s) (sym own) at)))
@@ -29,7 +29,7 @@ pub included_ends : (mine theirs : Kept) → Includes (state_of_facts mine) (sta
 included_ends mine theirs all space = all (End space)
 
 pub included : (mine theirs : Kept) → HasAll has_record mine.records theirs.records → HasAll (has_key space_cmp) mine.ended theirs.ended → TakesAll mine.cuts theirs.cuts → Includes (state_of_facts mine) (state_of_facts theirs)
-included mine theirs records ends taken (Rec s) held = record_of_atom mine.records s.id s (records (s.id.number, (s.id.processor, s)) (atom_of_record theirs.records s.id s held))
+included mine theirs records ends taken (Rec s) held = record_of_atom mine.records s.id s (records (s.id, s) (atom_of_record theirs.records s.id s held))
 included mine theirs records ends taken (Rev id page right) held = taken id page right held
 included mine theirs records ends taken (End space) held = ends space held
 

@@ -2,10 +2,8 @@
 use Rattle.std.specs.Prelude.{◌≡◌, ℕ}
 use Rattle.std.proofs.Common.{sym, ◌∙◌}
 use Rattle.std.specs.Cmp.{both_ways}
-use Rattle.std.specs.Ordering.{nat_cmp}
 use Rattle.mapdb_fpage.specs.declared.right_sets.Right.{Right}
 use Rattle.mapdb_join.specs.Atoms.{IsSame}
-use Rattle.mapdb_join.specs.Entries.{holds_key}
 use Rattle.mapdb_join.specs.Grow.{has_key}
 use Rattle.mapdb_facts.specs.declared.names.RecordId.{RecordId}
 use Rattle.mapdb_facts.specs.Facts.{records_of_facts, state_of_facts}
@@ -18,8 +16,8 @@ use Rattle.mapdb_facts.proofs.RecordLemmas.RecordAtoms.{atom_of_record, record_o
 record_same : (a b : Records) → IsSame has_record a b → (id : RecordId) → record_in b id ≡ record_in a id
 record_same a b same id =
     same_find _ _
-    (λ r h. record_of_atom a id r (same (id.number, (id.processor, r)) ∙ atom_of_record b id r h))
-    (λ r h. record_of_atom b id r (sym (same (id.number, (id.processor, r))) ∙ atom_of_record a id r h))
+    (λ r h. record_of_atom a id r (same (id, r) ∙ atom_of_record b id r h))
+    (λ r h. record_of_atom b id r (sym (same (id, r)) ∙ atom_of_record a id r h))
 
 cut_same : (a b : Cuts) → IsSame has_cut a b → (id : RecordId) (page : ℕ) (right : Right) → cut_in b id page right ≡ cut_in a id page right
 cut_same a b same id page right =
@@ -29,10 +27,9 @@ module _ (a b : Kept) (records : IsSame has_record a.records b.records) (taken :
   pub copied_state : IsSame (has_key space_cmp) a.ended b.ended → state_of_facts b ≡ state_of_facts a
   copied_state ends = same_state (state_of_facts b) (state_of_facts a) (record_same a.records b.records records) (cut_same a.cuts b.cuts taken) (λ space. sym (ends space))
 
-  pub copied_facts : IsSame (holds_key nat_cmp) a.records b.records → IsFacts a.records a.cuts → IsFacts b.records b.cuts
-  copied_facts keys is = record {
+  pub copied_facts : IsFacts a.records a.cuts → IsFacts b.records b.cuts
+  copied_facts is = record {
     formed = λ id r h. is.formed id r (sym (record_same a.records b.records records id) ∙ h);
-    filled = λ number h. (let one = is.filled number (keys number ∙ h) in (one.0, one.1, sym (records (number, (one.0, one.1))) ∙ one.2));
     rights = λ id page bit h. is.rights id page bit (taken (id, (page, bit)) ∙ h);
   }
 

@@ -1,17 +1,14 @@
 -- What is true of the maps stays true of unions.
 use Rattle.std.specs.Prelude.{◌≡◌, ◌||◌, ◌<◌, ◌^◌, ℕ, Bool, true, false, Some, refl}
 use Rattle.std.proofs.Common.{sym, ◌∙◌, subst, inl, inr, zero, suc, arith}
-use Rattle.std.proofs.lemmas.Bool.{cases_lt, eqb-true, or_cases, or_left, or_right, true≢false}
+use Rattle.std.proofs.lemmas.Bool.{cases_lt, eqb-true, or_cases}
 use Rattle.std.proofs.lemmas.Nat.Bits.{bit_at_above}
-use Rattle.std.specs.Ordering.{nat_cmp}
-use Rattle.std.specs.BTreeMap.{is_at}
 use Rattle.mapdb_fpage.specs.declared.right_sets.Right.{Right}
 use Rattle.mapdb_fpage.specs.declared.right_sets.Right.TheVariants.{Execute, Read, Write}
 use Rattle.mapdb_fpage.specs.declared.right_sets.Rights.{Rights}
 use Rattle.mapdb_fpage.specs.RightSets.{bits_of}
 use Rattle.mapdb_join.specs.Atoms.{IsUnion}
 use Rattle.mapdb_join.specs.Bits.{has_bit}
-use Rattle.mapdb_join.specs.Entries.{holds_key}
 use Rattle.mapdb_facts.specs.declared.names.RecordId.{RecordId}
 use Rattle.mapdb_facts.specs.declared.operations.Op.TheVariants.{Born}
 use Rattle.mapdb_facts.specs.declared.operations.Record.{Record}
@@ -19,17 +16,12 @@ use Rattle.mapdb_facts.specs.declared.operations.Revocation.{Revocation}
 use Rattle.mapdb_facts.specs.Exact.{exact_id}
 use Rattle.mapdb_facts.specs.Kept.{Cuts, IsFacts, Records, bit_of, has_cut, has_record, record_in}
 use Rattle.mapdb_facts.specs.WellFormed.{is_formed}
-use Rattle.mapdb_facts.proofs.Lists.Comparing.{exact_nat}
 use Rattle.mapdb_facts.proofs.Maps.CutAtoms.{from_one_bit, one_cut}
-use Rattle.mapdb_facts.proofs.RecordLemmas.RecordAtoms.{atom_of_record, from_one_record, one_record, record_of_atom, to_one_record}
+use Rattle.mapdb_facts.proofs.RecordLemmas.RecordAtoms.{atom_of_record, from_one_record, one_record, record_of_atom}
 
 -- each held record is well-formed and stands under its name
 abbrev pub Formed : Records → Type 0
 Formed records = (id : RecordId) (r : Record) → record_in records id ≡ Some r → (r.id ≡ id) × (is_formed (Born r) ≡ true)
-
--- no number stands without a record
-abbrev pub Filled : Records → Type 0
-Filled records = (number : ℕ) → holds_key nat_cmp records number ≡ true → (processor : ℕ) × (r : Record) × (has_record records (number, (processor, r)) ≡ true)
 
 -- each bit stands for a right
 abbrev pub OfRights : Cuts → Type 0
@@ -37,14 +29,14 @@ OfRights cuts = (id : RecordId) (page bit : ℕ) → has_cut cuts (id, (page, bi
 
 -- each atom of c is one of a or b
 abbrev pub RecordsWithin : Records → Records → Records → Type 0
-RecordsWithin a b c = (x : ℕ × (ℕ × Record)) → has_record c x ≡ true → (has_record a x || has_record b x) ≡ true
+RecordsWithin a b c = (x : RecordId × Record) → has_record c x ≡ true → (has_record a x || has_record b x) ≡ true
 
 abbrev pub CutsWithin : Cuts → Cuts → Cuts → Type 0
 CutsWithin a b c = (x : RecordId × (ℕ × ℕ)) → has_cut c x ≡ true → (has_cut a x || has_cut b x) ≡ true
 
 pub formed_within : (a b c : Records) → RecordsWithin a b c → Formed a → Formed b → Formed c
 formed_within a b c within in_a in_b id r h =
-    elim (or_cases (has_record a (id.number, (id.processor, r))) (has_record b (id.number, (id.processor, r))) (within (id.number, (id.processor, r)) (atom_of_record c id r h))) [
+    elim (or_cases (has_record a (id, r)) (has_record b (id, r)) (within (id, r) (atom_of_record c id r h))) [
       | inl p ↦ in_a id r (record_of_atom a id r p)
       | inr q ↦ in_b id r (record_of_atom b id r q)
     ]
@@ -56,34 +48,16 @@ rights_within a b c within in_a in_b id page bit h =
       | inr q ↦ in_b id page bit q
     ]
 
-pub filled_union : (a b c : Records) → IsUnion (holds_key nat_cmp) a b c → IsUnion has_record a b c → Filled a → Filled b → Filled c
-filled_union a b c keys atoms in_a in_b number h =
-    elim (or_cases (holds_key nat_cmp a number) (holds_key nat_cmp b number) (sym (keys number) ∙ h)) [
-      | inl p ↦ let one = in_a number p in (one.0, one.1, atoms (number, (one.0, one.1)) ∙ or_left _ _ one.2)
-      | inr q ↦ let one = in_b number q in (one.0, one.1, atoms (number, (one.0, one.1)) ∙ or_right (has_record a (number, (one.0, one.1))) _ one.2)
-    ]
-
 -- one record alone
 one_formed : (r : Record) → is_formed (Born r) ≡ true → Formed (one_record r)
 one_formed r formed id s h =
     let f = from_one_record r id s (atom_of_record (one_record r) id s h) in
     subst (λ (x : Record). (x.id ≡ id) × (is_formed (Born x) ≡ true)) f.1 (exact_id r.id id f.0, formed)
 
-one_filled : (r : Record) → Filled (one_record r)
-one_filled r number h = at (is_at (nat_cmp number) r.id.number) refl h
-  where
-    at : (t : Bool) → is_at (nat_cmp number) r.id.number ≡ t → holds_key nat_cmp (one_record r) number ≡ true → (processor : ℕ) × (s : Record) × (has_record (one_record r) (number, (processor, s)) ≡ true)
-    at true e k = (r.id.processor, r, subst (λ n. has_record (one_record r) (n, (r.id.processor, r)) ≡ true) (sym (exact_nat number r.id.number e)) (to_one_record r))
-    at false e k = absurd (true≢false (sym k ∙ absent e))
-      where
-        absent : is_at (nat_cmp number) r.id.number ≡ false → holds_key nat_cmp (one_record r) number ≡ false
-        absent e = simp e
-
 -- what holds of the maps holds when a record is added
-pub kept_record : (old new : Records) (cuts : Cuts) (r : Record) → is_formed (Born r) ≡ true → IsUnion (holds_key nat_cmp) old (one_record r) new → IsUnion has_record old (one_record r) new → IsFacts old cuts → IsFacts new cuts
-kept_record old new cuts r formed keys atoms kept = record {
+pub kept_record : (old new : Records) (cuts : Cuts) (r : Record) → is_formed (Born r) ≡ true → IsUnion has_record old (one_record r) new → IsFacts old cuts → IsFacts new cuts
+kept_record old new cuts r formed atoms kept = record {
   formed = formed_within old (one_record r) new (λ x h. sym (atoms x) ∙ h) kept.formed (one_formed r formed);
-  filled = filled_union old (one_record r) new keys atoms kept.filled (one_filled r);
   rights = kept.rights;
 }
 
@@ -121,6 +95,5 @@ one_rights cut id page bit h = bit_right cut.rights bit (from_one_bit cut id pag
 pub kept_cut : (records : Records) (old new : Cuts) (cut : Revocation) → IsUnion has_cut old (one_cut cut) new → IsFacts records old → IsFacts records new
 kept_cut records old new cut atoms kept = record {
   formed = kept.formed;
-  filled = kept.filled;
   rights = rights_within old (one_cut cut) new (λ x h. sym (atoms x) ∙ h) kept.rights (one_rights cut);
 }

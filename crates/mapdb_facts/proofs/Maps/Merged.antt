@@ -1,17 +1,15 @@
 -- What a merge leaves of three maps.
-use Rattle.std.specs.Prelude.{◌≡◌, ◌⊎◌, ◌||◌, ℕ, Bool, true, false, List}
+use Rattle.std.specs.Prelude.{◌⊎◌, Bool, List}
 use Rattle.std.proofs.Common.{sym, ◌∙◌, subst, inl, inr}
-use Rattle.std.proofs.lemmas.Bool.{cases_Bool, or_cases, or_left, true≢false}
-use Rattle.std.specs.Ordering.{nat_cmp}
+use Rattle.std.proofs.lemmas.Bool.{or_cases, or_left}
 use Rattle.mapdb_join.specs.Atoms.{IsBetween, IsUnion}
-use Rattle.mapdb_join.specs.Entries.{IsFirstClash, IsPartMerged, excludes_under, has_under, holds_key}
+use Rattle.mapdb_join.specs.Entries.{IsFirstClash, excludes_under}
 use Rattle.mapdb_join.specs.Faults.{FaultLeaves, TellsMemory}
 use Rattle.mapdb_join.specs.Grow.{has_key}
 use Rattle.mapdb_join.specs.declared.merge.MergeFault.{MergeFault}
 use Rattle.mapdb_join.specs.declared.merge.MergeFault.TheVariants.{Clash, Memory}
 use Rattle.mapdb_facts.specs.declared.names.RecordId.{RecordId}
 use Rattle.mapdb_facts.specs.declared.names.Space.{Space}
-use Rattle.mapdb_facts.specs.Adding.{same_record}
 use Rattle.mapdb_facts.specs.Facts.{state_of_facts}
 use Rattle.mapdb_facts.specs.Kept.{Cuts, IsFacts, Kept, Records, cut_in, ended_in, fault_at, has_cut, has_record, id_cmp, space_cmp}
 use Rattle.mapdb_join.specs.Runs.{has_at}
@@ -19,7 +17,7 @@ use Rattle.mapdb_facts.specs.Merging.{Includes, IsStateBetween, MergeLeaves}
 use Rattle.mapdb_facts.specs.State.{Atom, End, Has, Rec, Rev}
 use Rattle.mapdb_facts.proofs.Maps.Clashes.{IsRecordSpot, agree_where, excludes_record, least_clash}
 use Rattle.mapdb_facts.proofs.Maps.CutAtoms.{cut_with, cut_within}
-use Rattle.mapdb_facts.proofs.Maps.KeptFacts.{Filled, filled_union, formed_within, rights_within}
+use Rattle.mapdb_facts.proofs.Maps.KeptFacts.{formed_within, rights_within}
 use Rattle.mapdb_facts.proofs.RecordLemmas.RecordAtoms.{atom_of_record, record_of_atom}
 
 -- a union lies between, and so does what has not changed
@@ -31,13 +29,13 @@ old_between has a b = record { kept = λ x h. h; within = λ x h. or_left _ _ h 
 
 module _ (a b c : Kept) (records : IsBetween has_record a.records b.records c.records) (taken : IsBetween has_cut a.cuts b.cuts c.cuts) (ends : IsBetween (has_key space_cmp) a.ended b.ended c.ended) where
   kept_atom : Includes (state_of_facts c) (state_of_facts a)
-  kept_atom (Rec r) h = record_of_atom c.records r.id r (records.kept (r.id.number, (r.id.processor, r)) (atom_of_record a.records r.id r h))
+  kept_atom (Rec r) h = record_of_atom c.records r.id r (records.kept (r.id, r) (atom_of_record a.records r.id r h))
   kept_atom (Rev id page right) h = cut_with a.cuts c.cuts taken.kept id page right h
   kept_atom (End space) h = ends.kept space h
 
   within_atom : (atom : Atom) → Has (state_of_facts c) atom → Has (state_of_facts a) atom ⊎ Has (state_of_facts b) atom
   within_atom (Rec r) h =
-      elim (or_cases (has_record a.records (r.id.number, (r.id.processor, r))) (has_record b.records (r.id.number, (r.id.processor, r))) (records.within (r.id.number, (r.id.processor, r)) (atom_of_record c.records r.id r h))) [
+      elim (or_cases (has_record a.records (r.id, r)) (has_record b.records (r.id, r)) (records.within (r.id, r) (atom_of_record c.records r.id r h))) [
         | inl p ↦ inl (record_of_atom a.records r.id r p)
         | inr q ↦ inr (record_of_atom b.records r.id r q)
       ]
@@ -48,45 +46,26 @@ module _ (a b c : Kept) (records : IsBetween has_record a.records b.records c.re
   pub between_states : IsStateBetween (state_of_facts a) (state_of_facts b) (state_of_facts c)
   between_states = record { kept = kept_atom; within = within_atom }
 
--- no number stands without a record where a merge stopped
-filled_part : (old other new : Records) → IsBetween has_record old other new → IsPartMerged nat_cmp (has_under nat_cmp same_record) old other new → Filled old → Filled other → Filled new
-filled_part old other new between part in_old in_other number h =
-    elim (cases_Bool (holds_key nat_cmp old number)) [
-      | inl held ↦ let one = in_old number held in (one.0, one.1, between.kept (number, (one.0, one.1)) one.2)
-      | inr absent ↦
-          let one = in_other number (second (holds_key nat_cmp old number) (holds_key nat_cmp other number) absent (part.keys.within number h)) in
-          (one.0, one.1, part.whole number (one.0, one.1) absent h ∙ one.2)
-    ]
-  where
-    second : (x y : Bool) → x ≡ false → (x || y) ≡ true → y ≡ true
-    second true y e k = absurd (true≢false e)
-    second false y e k = k
-
-abbrev pub RecordFault : Records → Records → Records → MergeFault (ℕ × (ℕ × Unit {0})) → Type 0
+abbrev pub RecordFault : Records → Records → Records → MergeFault (RecordId × Unit {0}) → Type 0
 RecordFault old other new fault = FaultLeaves has_record excludes_record IsRecordSpot old other new fault
 
-abbrev pub RecordPart : Records → Records → Records → MergeFault (ℕ × (ℕ × Unit {0})) → Type 0
-RecordPart old other new fault = TellsMemory fault → IsPartMerged nat_cmp (has_under nat_cmp same_record) old other new
-
 -- what is true of the maps where the records did not merge
-pub kept_fault : (old other : Kept) (new : Records) (fault : MergeFault (ℕ × (ℕ × Unit {0}))) → IsFacts old.records old.cuts → IsFacts other.records other.cuts → RecordFault old.records other.records new fault → RecordPart old.records other.records new fault → IsFacts new old.cuts
-kept_fault old other new (Clash spot) one two h part = subst (λ (x : Records). IsFacts x old.cuts) (sym h.2) one
-kept_fault old other new (Memory refused) one two h part = record {
+pub kept_fault : (old other : Kept) (new : Records) (fault : MergeFault (RecordId × Unit {0})) → IsFacts old.records old.cuts → IsFacts other.records other.cuts → RecordFault old.records other.records new fault → IsFacts new old.cuts
+kept_fault old other new (Clash spot) one two h = subst (λ (x : Records). IsFacts x old.cuts) (sym h.2) one
+kept_fault old other new (Memory refused) one two h = record {
   formed = formed_within old.records other.records new h.1.within one.formed two.formed;
-  filled = filled_part old.records other.records new h.1 (part tt) one.filled two.filled;
   rights = one.rights;
 }
 
 -- what is true of the maps where the records merged, and the revocations did in part
-pub kept_merged : (old other : Kept) (records : Records) (taken : Cuts) → IsFacts old.records old.cuts → IsFacts other.records other.cuts → IsUnion (holds_key nat_cmp) old.records other.records records → IsUnion has_record old.records other.records records → IsBetween has_cut old.cuts other.cuts taken → IsFacts records taken
-kept_merged old other records taken one two keys atoms between = record {
+pub kept_merged : (old other : Kept) (records : Records) (taken : Cuts) → IsFacts old.records old.cuts → IsFacts other.records other.cuts → IsUnion has_record old.records other.records records → IsBetween has_cut old.cuts other.cuts taken → IsFacts records taken
+kept_merged old other records taken one two atoms between = record {
   formed = formed_within old.records other.records records (λ x h. sym (atoms x) ∙ h) one.formed two.formed;
-  filled = filled_union old.records other.records records keys atoms one.filled two.filled;
   rights = rights_within old.cuts other.cuts taken between.within one.rights two.rights;
 }
 
 -- the fault of the records is the merge's
-pub fault_leaves : (old other : Kept) (new : Records) (fault : MergeFault (ℕ × (ℕ × Unit {0}))) → RecordFault old.records other.records new fault → MergeLeaves old other (record { records = new; cuts = old.cuts; ended = old.ended }) (fault_at fault)
+pub fault_leaves : (old other : Kept) (new : Records) (fault : MergeFault (RecordId × Unit {0})) → RecordFault old.records other.records new fault → MergeLeaves old other (record { records = new; cuts = old.cuts; ended = old.ended }) (fault_at fault)
 fault_leaves old other new (Clash spot) h = (least_clash old other spot h.1, λ i. record { records = h.2 i; cuts = old.cuts; ended = old.ended })
 fault_leaves old other new (Memory refused) h = (
   agree_where old other h.0,

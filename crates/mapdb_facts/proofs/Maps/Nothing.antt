@@ -4,7 +4,6 @@ use Rattle.std.proofs.Common.{sym, ◌∙◌, ap, subst}
 use Rattle.std.proofs.lemmas.Bool.{true≢false}
 use Rattle.mapdb_join.specs.Atoms.{HasNone}
 use Rattle.mapdb_join.specs.Grow.{has_key}
-use Rattle.mapdb_facts.specs.declared.names.RecordId.{RecordId}
 use Rattle.mapdb_facts.specs.declared.operations.Record.{Record}
 use Rattle.mapdb_facts.specs.Facts.{state_of_facts}
 use Rattle.mapdb_facts.specs.Kept.{Kept, bit_of, has_cut, has_record, record_in, space_cmp}
@@ -26,15 +25,14 @@ module _ (kept : Kept) where
   pub says_nothing : HasNone has_record kept.records → HasNone has_cut kept.cuts → HasNone (has_key space_cmp) kept.ended → state_of_facts kept ≡ nothing
   says_nothing records taken ends =
       same_state (state_of_facts kept) nothing
-      (λ id. not_some (record_in kept.records id) (λ r h. true≢false (sym (atom_of_record kept.records id r h) ∙ records (id.number, (id.processor, r)))))
+      (λ id. not_some (record_in kept.records id) (λ r h. true≢false (sym (atom_of_record kept.records id r h) ∙ records (id, r))))
       (λ id page right. taken (id, (page, bit_of right)))
       ends
 
   pub no_records : state_of_facts kept ≡ nothing → HasNone has_record kept.records
   no_records same x =
       not_true (has_record kept.records x)
-      (λ h. let id : RecordId = record { number = x.0; processor = x.1.0 } in
-      none_some x.1.1 (sym (ap (λ (S : State). S.record_at id) same) ∙ record_of_atom kept.records id x.1.1 h))
+      (λ h. none_some x.1 (sym (ap (λ (S : State). S.record_at x.0) same) ∙ record_of_atom kept.records x.0 x.1 h))
 
   pub no_cuts : OfRights kept.cuts → state_of_facts kept ≡ nothing → HasNone has_cut kept.cuts
   no_cuts rights same x =

@@ -1,17 +1,15 @@
 -- The records of facts in ascending order follow from their state.
 use Rattle.std.proofs.Common.{◌≡◌, ℕ, Bool, true, false, Some, refl, sym, ap, subst, ◌∙◌, List, [], ◌∷◌, ◌++◌, inl, inr}
-use Rattle.std.specs.Prelude.{◌⊎◌, Option, None, cond, option_and_then}
+use Rattle.std.specs.Prelude.{◌⊎◌, Option, None, cond}
 use Rattle.std.proofs.lemmas.Bool.{cases_Bool, cond-true, cond-false, false≢true}
 use Rattle.std.specs.Map.{lookup}
-use Rattle.std.specs.Ordering.{nat_cmp}
 use Rattle.std.specs.BTreeMap.{is_at}
-use Rattle.mapdb_facts.proofs.Lists.Among.{among_left, among_right}
 use Rattle.mapdb_facts.specs.declared.holding.Facts.{Facts}
 use Rattle.mapdb_facts.specs.declared.names.RecordId.{RecordId}
 use Rattle.mapdb_facts.specs.declared.operations.Op.{Op}
 use Rattle.mapdb_facts.specs.declared.operations.Record.{Record}
 use Rattle.mapdb_facts.specs.Facts.{birth_of, births, records_of_facts, state_of_facts}
-use Rattle.mapdb_facts.specs.Kept.{Records, names_in, names_of, record_in}
+use Rattle.mapdb_facts.specs.Kept.{Records, id_cmp, names_in, record_in}
 use Rattle.mapdb_facts.specs.Looking.{IsFound, IsGreatest}
 use Rattle.mapdb_facts.specs.Merging.{IsNamed}
 use Rattle.mapdb_facts.specs.Names.{same_id}
@@ -19,7 +17,7 @@ use Rattle.mapdb_facts.specs.Records.{ComesNext, IsAmong, greatest_number, recor
 use Rattle.mapdb_facts.specs.State.{State, first_of, state_of}
 use Rattle.mapdb_facts.proofs.RecordLemmas.Ascending.{ascending_records, comes_next, find_record, find_records, found_listed, greatest-number, same_lists}
 use Rattle.mapdb_facts.proofs.Maps.Atoms.{same_find}
-use Rattle.mapdb_facts.proofs.Lists.Comparing.{exact_nat}
+use Rattle.mapdb_facts.proofs.Lists.Comparing.{exact_ids}
 use Rattle.mapdb_facts.proofs.Lists.SameNames.{none_some, same_id_itself, same_id_true, some_same}
 
 -- what is found among births was found by a name
@@ -59,23 +57,13 @@ found_births S named (x ∷ ids) id r (inl e) h = found_birth S named (S.record_
 found_births S named (x ∷ ids) id r (inr k) h = found_birth S named (S.record_at x) x refl (births S ids) id r h (inr (found_births S named ids id r k h))
 
 -- a name under which a record stands is listed
-listed_inner : (n : ℕ) (inner : List (ℕ × Record)) (p : ℕ) (r : Record) → lookup (is_at (nat_cmp p)) inner ≡ Some r → IsAmong (record { number = n; processor = p }) (names_of n inner)
-listed_inner n [] p r h = absurd (none_some r h)
-listed_inner n (e ∷ rest) p r h = at (listed_inner n rest p r) (is_at (nat_cmp p) e.0) refl h
-  where
-    at : (lookup (is_at (nat_cmp p)) rest ≡ Some r → IsAmong (record { number = n; processor = p }) (names_of n rest)) → (t : Bool) → is_at (nat_cmp p) e.0 ≡ t → cond t (Some e.1) (lookup (is_at (nat_cmp p)) rest) ≡ Some r → IsAmong (record { number = n; processor = p }) (names_of n (e ∷ rest))
-    at later true here k = inl (ap (λ q. record { number = n; processor = q }) (sym (exact_nat p e.0 here)))
-    at later false other k = inr (later k)
-
 pub name_listed : (records : Records) (id : RecordId) (r : Record) → record_in records id ≡ Some r → IsAmong id (names_in records)
 name_listed [] id r h = absurd (none_some r h)
-name_listed (e ∷ rest) id r h = at (name_listed rest id r) (is_at (nat_cmp id.number) e.0) refl h
+name_listed (e ∷ rest) id r h = at (name_listed rest id r) (is_at (id_cmp id) e.0) refl h
   where
-    at : (record_in rest id ≡ Some r → IsAmong id (names_in rest)) → (t : Bool) → is_at (nat_cmp id.number) e.0 ≡ t → option_and_then (λ inner. lookup (is_at (nat_cmp id.processor)) inner) (cond t (Some e.1) (lookup (is_at (nat_cmp id.number)) rest)) ≡ Some r → IsAmong id (names_in (e ∷ rest))
-    at later true here k =
-        among_left (names_of e.0 e.1) (names_in rest) id
-        (subst (λ n. IsAmong (record { number = n; processor = id.processor }) (names_of e.0 e.1)) (sym (exact_nat id.number e.0 here)) (listed_inner e.0 e.1 id.processor r k))
-    at later false other k = among_right (names_of e.0 e.1) (names_in rest) id (later k)
+    at : (record_in rest id ≡ Some r → IsAmong id (names_in rest)) → (t : Bool) → is_at (id_cmp id) e.0 ≡ t → cond t (Some e.1) (lookup (is_at (id_cmp id)) rest) ≡ Some r → IsAmong id (names_in (e ∷ rest))
+    at later true here k = inl (sym (exact_ids id e.0 here))
+    at later false other k = inr (later k)
 
 -- the look-up among the births is that of the state
 pub births_state : (facts : Facts) → IsNamed (state_of_facts facts) → (id : RecordId) → (state_of (births (state_of_facts facts) (names_in facts.records))).record_at id ≡ (state_of_facts facts).record_at id

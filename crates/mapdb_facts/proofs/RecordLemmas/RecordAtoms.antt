@@ -1,79 +1,59 @@
 -- A record's look-up and its atom.
-use Rattle.std.specs.Prelude.{◌≡◌, ℕ, Bool, true, false, cond, List, [], ◌∷◌, Option, Some, None, option_and_then, nat_eq, if◌then◌else◌, refl}
+use Rattle.std.specs.Prelude.{◌≡◌, Bool, true, false, cond, [], ◌∷◌, Option, Some, None, if◌then◌else◌, refl}
 use Rattle.std.proofs.Common.{sym, ◌∙◌, ap, subst, inl, inr}
 use Rattle.std.specs.Map.{lookup}
-use Rattle.std.specs.Ordering.{nat_cmp}
 use Rattle.std.specs.BTreeMap.{is_at}
-use Rattle.std.proofs.lemmas.Bool.{and_from, or_cases, or_left, or_right, cases_Bool, cond-true, cond-false, true≢false, eq-eqb}
+use Rattle.std.proofs.lemmas.Bool.{or_cases, or_left, or_right, cases_Bool, cond-true, cond-false, true≢false}
 use Rattle.mapdb_join.specs.Atoms.{IsUnion}
-use Rattle.mapdb_join.specs.Entries.{some_has, has_under}
+use Rattle.mapdb_join.specs.Entries.{some_has}
 use Rattle.mapdb_facts.specs.declared.operations.Record.{Record}
 use Rattle.mapdb_facts.specs.declared.names.RecordId.{RecordId}
 use Rattle.mapdb_facts.specs.Adding.{same_record}
 use Rattle.mapdb_facts.specs.Exact.{exact_id, exact_record}
 use Rattle.mapdb_facts.specs.Names.{same_id}
 use Rattle.mapdb_facts.specs.State.{first_of}
-use Rattle.mapdb_facts.specs.Kept.{Records, has_record, record_in}
-use Rattle.mapdb_facts.proofs.Lists.Comparing.{exact_nat, nat_itself}
+use Rattle.mapdb_facts.specs.Kept.{Records, has_record, id_cmp, record_in}
+use Rattle.mapdb_facts.proofs.Lists.Comparing.{exact_ids, id_at}
 use Rattle.mapdb_facts.proofs.Maps.Atoms.{same_find}
-use Rattle.mapdb_facts.proofs.Lists.SameNames.{some_same, none_some}
+use Rattle.mapdb_facts.proofs.Lists.SameNames.{none_some, same_id_at, same_id_itself, some_same}
 use Rattle.mapdb_facts.proofs.RecordLemmas.SameRecords.{same_record_itself}
-
-abbrev atom_of : RecordId → Record → ℕ × (ℕ × Record)
-atom_of id r = (id.number, (id.processor, r))
 
 inner_has : (o : Option Record) (r : Record) → some_has same_record o r ≡ true → o ≡ Some r
 inner_has None r h = absurd (true≢false (sym h))
 inner_has (Some s) r h = ap Some (exact_record s r h)
 
-outer_has : (o : Option (List (ℕ × Record))) (p : ℕ) (r : Record) → some_has (has_under nat_cmp same_record) o (p, r) ≡ true → option_and_then (λ inner. lookup (is_at (nat_cmp p)) inner) o ≡ Some r
-outer_has None p r h = absurd (true≢false (sym h))
-outer_has (Some inner) p r h = inner_has (lookup (is_at (nat_cmp p)) inner) r h
-
 -- an atom is looked up
-pub record_of_atom : (records : Records) (id : RecordId) (r : Record) → has_record records (atom_of id r) ≡ true → record_in records id ≡ Some r
-record_of_atom records id r h = outer_has (lookup (is_at (nat_cmp id.number)) records) id.processor r h
+pub record_of_atom : (records : Records) (id : RecordId) (r : Record) → has_record records (id, r) ≡ true → record_in records id ≡ Some r
+record_of_atom records id r h = inner_has (lookup (is_at (id_cmp id)) records) r h
 
 inner_found : (o : Option Record) (r : Record) → o ≡ Some r → some_has same_record o r ≡ true
 inner_found None r h = absurd (none_some r h)
 inner_found (Some s) r h = ap (λ x. same_record x r) (some_same s r h) ∙ same_record_itself r
 
-outer_found : (o : Option (List (ℕ × Record))) (p : ℕ) (r : Record) → option_and_then (λ inner. lookup (is_at (nat_cmp p)) inner) o ≡ Some r → some_has (has_under nat_cmp same_record) o (p, r) ≡ true
-outer_found None p r h = absurd (none_some r h)
-outer_found (Some inner) p r h = inner_found (lookup (is_at (nat_cmp p)) inner) r h
-
 -- what is looked up is an atom
-pub atom_of_record : (records : Records) (id : RecordId) (r : Record) → record_in records id ≡ Some r → has_record records (atom_of id r) ≡ true
-atom_of_record records id r h = outer_found (lookup (is_at (nat_cmp id.number)) records) id.processor r h
+pub atom_of_record : (records : Records) (id : RecordId) (r : Record) → record_in records id ≡ Some r → has_record records (id, r) ≡ true
+atom_of_record records id r h = inner_found (lookup (is_at (id_cmp id)) records) r h
 
 -- one record alone
 abbrev pub one_record : Record → Records
-one_record r = (r.id.number, (r.id.processor, r) ∷ []) ∷ []
+one_record r = (r.id, r) ∷ []
 
-alone_inner : (b : Bool) (r s : Record) → some_has same_record (cond b (Some r) None) s ≡ true → (b ≡ true) × (r ≡ s)
-alone_inner true r s h = (refl, exact_record r s h)
-alone_inner false r s h = absurd (true≢false (sym h))
-
-alone_outer : (a : Bool) (p q : ℕ) (r s : Record) → some_has (has_under nat_cmp same_record) (cond a (Some ((p, r) ∷ [])) None) (q, s) ≡ true → (a ≡ true) × (is_at (nat_cmp q) p ≡ true) × (r ≡ s)
-alone_outer true p q r s h = let f = alone_inner (is_at (nat_cmp q) p) r s h in (refl, f.0, f.1)
-alone_outer false p q r s h = absurd (true≢false (sym h))
+alone : (b : Bool) (r s : Record) → some_has same_record (cond b (Some r) None) s ≡ true → (b ≡ true) × (r ≡ s)
+alone true r s h = (refl, exact_record r s h)
+alone false r s h = absurd (true≢false (sym h))
 
 -- the one record's atom stands under its own name
-pub from_one_record : (r : Record) (id : RecordId) (s : Record) → has_record (one_record r) (atom_of id s) ≡ true → (same_id r.id id ≡ true) × (r ≡ s)
+pub from_one_record : (r : Record) (id : RecordId) (s : Record) → has_record (one_record r) (id, s) ≡ true → (same_id r.id id ≡ true) × (r ≡ s)
 from_one_record r id s h =
-    let f = alone_outer (is_at (nat_cmp id.number) r.id.number) r.id.processor id.processor r s h in
-    (and_from (nat_eq r.id.number id.number) (nat_eq r.id.processor id.processor) (eq-eqb _ _ (sym (exact_nat _ _ f.0))) (eq-eqb _ _ (sym (exact_nat _ _ f.1))), f.2)
+    let f = alone (is_at (id_cmp id) r.id) r s h in
+    (same_id_at r.id id (sym (exact_ids id r.id f.0)), f.1)
 
-to_inner : (b : Bool) (r : Record) → b ≡ true → some_has same_record (cond b (Some r) None) r ≡ true
-to_inner true r e = same_record_itself r
-to_inner false r e = absurd (true≢false (sym e))
+there : (b : Bool) (r : Record) → b ≡ true → some_has same_record (cond b (Some r) None) r ≡ true
+there true r e = same_record_itself r
+there false r e = absurd (true≢false (sym e))
 
-to_outer : (a : Bool) (p : ℕ) (r : Record) → a ≡ true → some_has (has_under nat_cmp same_record) (cond a (Some ((p, r) ∷ [])) None) (p, r) ≡ true
-to_outer true p r e = to_inner (is_at (nat_cmp p) p) r (nat_itself p)
-to_outer false p r e = absurd (true≢false (sym e))
-
-pub to_one_record : (r : Record) → has_record (one_record r) (atom_of r.id r) ≡ true
-to_one_record r = to_outer (is_at (nat_cmp r.id.number) r.id.number) r.id.processor r (nat_itself r.id.number)
+pub to_one_record : (r : Record) → has_record (one_record r) (r.id, r) ≡ true
+to_one_record r = there (is_at (id_cmp r.id) r.id) r (id_at r.id r.id ∙ same_id_itself r.id)
 
 -- the look-up of one record alone
 pub record_one : (r : Record) (id : RecordId) → record_in (one_record r) id ≡ (if same_id r.id id then Some r else None)
@@ -85,7 +65,7 @@ record_one r id =
       | inl same ↦
           let e : r ≡ s = some_same r s (sym (cond-true (same_id r.id id) (Some r) None same) ∙ h) in
           subst (λ (x : RecordId). record_in (one_record r) x ≡ Some s) (exact_id r.id id same)
-          (record_of_atom (one_record r) r.id s (subst (λ (x : Record). has_record (one_record r) (atom_of r.id x) ≡ true) e (to_one_record r)))
+          (record_of_atom (one_record r) r.id s (subst (λ (x : Record). has_record (one_record r) (r.id, x) ≡ true) e (to_one_record r)))
       | inr other ↦ absurd (none_some s (sym (cond-false (same_id r.id id) (Some r) None other) ∙ h))
     ])
 
@@ -95,13 +75,13 @@ record_joined a b c u id = by_first (record_in a id) refl
   where
     by_rest : record_in a id ≡ None → (s : Record) → record_in c id ≡ Some s → record_in b id ≡ Some s
     by_rest none s h =
-        elim (or_cases (has_record a (atom_of id s)) (has_record b (atom_of id s)) (sym (u (atom_of id s)) ∙ atom_of_record c id s h)) [
+        elim (or_cases (has_record a (id, s)) (has_record b (id, s)) (sym (u (id, s)) ∙ atom_of_record c id s h)) [
           | inl p ↦ absurd (none_some s (sym none ∙ record_of_atom a id s p))
           | inr q ↦ record_of_atom b id s q
         ]
 
     by_first : (o : Option Record) → record_in a id ≡ o → record_in c id ≡ first_of o (record_in b id)
-    by_first (Some s) is = record_of_atom c id s (u (atom_of id s) ∙ or_left _ _ (atom_of_record a id s is))
+    by_first (Some s) is = record_of_atom c id s (u (id, s) ∙ or_left _ _ (atom_of_record a id s is))
     by_first None is =
         same_find _ _ (by_rest is)
-        (λ s h. record_of_atom c id s (u (atom_of id s) ∙ or_right (has_record a (atom_of id s)) _ (atom_of_record b id s h)))
+        (λ s h. record_of_atom c id s (u (id, s) ∙ or_right (has_record a (id, s)) _ (atom_of_record b id s h)))
