@@ -96,7 +96,7 @@ log_checking() {
 
 # The version, as each file that has it names it: a line for each.
 versions() {
-    sed -n 's/^pub const VERSION: &str = "\([^ "]*\).*/\1/p' "$top/crates/l4map/src/help.rt"
+    sed -n 's/^pub const VERSION: &str = "\([^ "]*\).*/\1/p' "$top/crates/mapdb_program/src/help.rt"
     sed -n 's/^#define MAPDB_VERSION "\(.*\)"$/\1/p' "$top/include/mapdb.h"
     sed -n 's/^Version: //p' "$top/mapdb.pc.in"
     sed -n 's/^Version: //p' "$top/mapdb-heap.pc.in"

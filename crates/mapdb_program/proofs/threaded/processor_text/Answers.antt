@@ -1,0 +1,5 @@
+use Rattle.std.proofs.Common.{rules}
+use Rattle.mapdb_program.proofs.threaded.processor_text.Goals as goal
+
+pub returns : goal.returns
+returns c = search rules
