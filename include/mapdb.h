@@ -331,10 +331,13 @@ MAPDB_CALL uint32_t mapdb_map_words(mapdb_copy *copy, mapdb_space sender, uint64
  * Unmap: takes the page's rights, on its pages, from all that other spaces received from this space
  * there, directly or through others; with a flush that is not 0 from the space itself too. What
  * this copy does not know yet loses them when it comes, where it comes from a child that this copy
- * knew, and with a flush all that comes from the space's own pages there. Without a flush a child
- * of the space's own pages that this copy does not know keeps its rights. Also:
+ * knew, and with a flush also where it comes from a record of the space's own there that this copy
+ * knew. Another record of the space's own there, which this copy does not know, keeps its rights,
+ * and so does what comes from it. Without a flush a child of the space's own pages that this copy
+ * does not know keeps its rights. Also:
  *   MAPDB_BAD_SPACE, and those of the page as of mapdb_map. MAPDB_ROOT_SPACE is none: the first
- *     space may unmap.
+ *     space may unmap. With a flush it loses the rights to these frames itself, for good, and
+ *     nobody can map them again.
  */
 MAPDB_CALL uint32_t mapdb_unmap(mapdb_copy *copy, mapdb_space space, const mapdb_fpage *page,
     uint32_t flush, mapdb_issued *issued);
@@ -444,7 +447,8 @@ MAPDB_CALL uint32_t mapdb_covers(mapdb_copy *copy, mapdb_copy *other, bool *answ
 MAPDB_CALL uint32_t mapdb_same(mapdb_copy *copy, mapdb_copy *other, bool *answer);
 
 /*
- * The least version of a space of this number whose end the copy does not hold.
+ * The least version of a space of this number whose end the copy does not hold. It may be in use,
+ * here or at another processor.
  *   MAPDB_BAD_SPACE, MAPDB_NO_COPY: *version is not written.
  */
 MAPDB_CALL uint32_t mapdb_free_version(mapdb_copy *copy, uint32_t number, uint32_t *version);

@@ -154,7 +154,8 @@ impl Replica {
 
     /// Takes the page's rights from all that other spaces received there, and with `flush` from the
     /// space too. Without `flush` a child of the space's own pages that this copy has not seen
-    /// keeps its rights. It answers how many operations were issued.
+    /// keeps its rights, and so does, even with it, a record of the space itself that this copy has
+    /// not seen. It answers how many operations were issued.
     pub fn unmap(&mut self, space: Space, page: &Fpage, flush: bool) -> Result<u64, IssueError> {
         let mut issued = Issued::default();
         // SAFETY: as of `map`.

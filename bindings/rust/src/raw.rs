@@ -149,7 +149,7 @@ unsafe extern "C" {
     pub fn mapdb_create(copy: *mut Handle, processor: u32) -> u32;
     /// Ends a copy and gives its memory back.
     pub fn mapdb_destroy(copy: *mut Handle);
-    /// Maps or grants pages of one space to another.
+    /// Maps pages of one space to another.
     pub fn mapdb_map(
         copy: *mut Handle,
         sender: Space,

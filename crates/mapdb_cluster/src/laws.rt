@@ -46,7 +46,7 @@ pub fn runs_alone_are_trees()
 
 /// In every run without lists from outside: once a copy has taken an Unmap, none of the named
 /// rights is left there to what the issuer saw below the part as it issued, nor with a flush to the
-/// part itself, nor to anything below, whether seen or not.
+/// space's own records there that it saw, nor to anything below, whether seen or not.
 pub fn unmaps_reach()
     ensures { UnmapsReach }
 {}

@@ -37,7 +37,8 @@ impl Cluster {
     ghost use Rattle.mapdb_cluster.specs.Steps.{StopsAt};
 
     /// Does events, one after the other, and answers their replies in order. It goes on from where
-    /// the cluster is, and stops at the first time that memory runs out.
+    /// the cluster is, and stops at the first time that memory runs out: then the first `done`
+    /// events stand, and their replies are gone.
     pub fn run(&mut self, events: &[Event]) -> Result<Vec<Reply>, RunFault>
         ensures replies { IfOk result (λ answer. answer.items
             ≡ replies self.old (all_done events.now)) }

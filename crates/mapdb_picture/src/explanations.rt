@@ -81,10 +81,11 @@ fn or_nothing(alloc: Global, text: String) -> Result<String, AllocError>
     Ok(text)
 }
 
-/// Why a page of a space has the rights and frames that it has in the copy: for each record of the
-/// space that holds the page, the chain from it to the frame, or to where the chain ends, with what
-/// each of its records names and what is revoked of it at its page, and then what the record has
-/// there. The first space's root is one of these. The one error is that memory ran out.
+/// Why a page of a space, named by its number (its byte address divided by 4,096), has the rights
+/// and frames that it has in the copy: for each record of the space that holds the page, the chain
+/// from it to the frame, or to where the chain ends, with what each of its records names and what
+/// is revoked of it at its page, and then what the record has there. The first space's root is one
+/// of these. The one error is that memory ran out.
 pub fn explanation(
     alloc: Global,
     copy: &Replica,

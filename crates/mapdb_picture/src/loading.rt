@@ -23,10 +23,8 @@ pub fn snapshot_copy(alloc: Global, bytes: &[u8]) -> Result<Replica, LoadFault>
 {
     let ops = snapshot_read(alloc, bytes)?;
     let mut copy = Replica::new(alloc, 0);
-    match copy.take(ops.as_slice()) {
-        Ok(_) => Ok(copy),
-        Err(fault) => Err(LoadFault::from(fault)),
-    }
+    copy.take(ops.as_slice())?;
+    Ok(copy)
 }
 
 /// The Graphviz text of what a snapshot says, as [`picture`] writes it, or why a copy takes nothing

@@ -62,7 +62,7 @@ impl Replica {
 
     /// One past the last page up to which what a page of a space is served from goes on from this
     /// page: nothing at any of them, or frames that rise by one with each page, with equal rights.
-    /// It takes no memory.
+    /// Pages and frames are numbers: the byte address divided by 4,096. It takes no memory.
     pub fn run_end(&self, space: Space, page: u64) -> u64
         requires { page < PAGE_LIMIT }
         ensures { IsRunEnd (served self.now.ops space) page result }
