@@ -130,7 +130,7 @@ pub(crate) fn next_of_few(
 }
 
 /// Takes a place out of a few, as often as it stands among them. It takes no memory.
-pub(crate) fn few_remove(places: &mut SmallVec<OwnPlace, 2>, place: OwnPlace)
+pub(crate) fn few_remove(places: &mut SmallVec<OwnPlace, 1>, place: OwnPlace)
     ensures { (k : OwnPlace) → stands places.new.items k
         ≡ (not (is_at (place_cmp place) k) && stands places.old.items k) }
 {

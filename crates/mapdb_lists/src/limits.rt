@@ -3,6 +3,10 @@
 /// How many changes stand in a list that is halved; more stand in a map.
 pub(crate) const FEW_CHANGES: usize = 32;
 
+/// For how many changes more a full list of changes gets room: pages in the midst of a record that
+/// get other rights are two.
+pub(crate) const ROOM_FOR_CHANGES: usize = 2;
+
 /// How many places are looked through one by one; more stand in their order.
 pub(crate) const FEW_PLACES: usize = 24;
 

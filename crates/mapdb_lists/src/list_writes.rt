@@ -1,7 +1,8 @@
 //! Changes written to a list in ascending order of page, by one search.
 
 ghost use Rattle.std.specs.Prelude.{◌≡◌, ◌≤◌, ◌<◌, ℕ, Some, None, IfNone, IfOk, IfSome, OnOk};
-ghost use Rattle.std.specs.Prelude.{get_or, length, slice_set};
+ghost use Rattle.std.specs.Prelude.{OnErr, get_or, length, slice_set};
+ghost use Rattle.std.specs.List.{insert};
 ghost use Rattle.std.specs.Option.{unwrap_or};
 ghost use Rattle.mapdb_lists.specs.Changes.{IsRewritten, left_before};
 ghost use Rattle.mapdb_lists.specs.OwnChanges.{IsNoneUntil, listed_change};
@@ -11,6 +12,7 @@ ghost use Rattle.mapdb_lists.specs.declared.few_changes.PageChange.{PageChange};
 use crate::change_lists::index_of;
 use crate::changes::Change;
 use crate::few_changes::PageChange;
+use crate::limits::ROOM_FOR_CHANGES;
 use mapdb_fpage::PAGE_LIMIT;
 use smallvec::SmallVec;
 use std::alloc::AllocError;
@@ -21,6 +23,25 @@ fn set_at(list: &mut [PageChange], index: usize, next: PageChange)
     ensures { list.new ≡ slice_set list.old index next }
 {
     list[index] = next;
+}
+
+/// Puts a change in front of those from an index on. A full list gets room for as many changes more
+/// as records mostly get, and not twice its own, as it would by itself. An error where memory ran
+/// out, and then the same changes stand there.
+fn insert_at(
+    list: &mut SmallVec<PageChange, 2>,
+    index: usize,
+    next: PageChange,
+) -> Result<(), AllocError>
+    requires { index ≤ length list.old.items }
+    ensures ok { OnOk result (list.new.items ≡ insert list.old.items index next) }
+    ensures err { OnErr result (list.new.items ≡ list.old.items) }
+{
+    if list.len() == list.capacity() {
+        list.reserve_exact(ROOM_FOR_CHANGES)?;
+    }
+    list.insert(index, next)?;
+    Ok(())
 }
 
 /// What stands in front of the change at an index, where this stands before any change.
@@ -87,7 +108,7 @@ fn write_between(
     if change.is(in_front(list.as_slice(), index, before)) {
         return Ok(index);
     }
-    list.insert(index, PageChange { page, change })?;
+    insert_at(list, index, PageChange { page, change })?;
     Ok(index + 1)
 }
 
@@ -166,7 +187,7 @@ fn write_end(
                 page: end,
                 change: was,
             };
-            list.insert(spot, follows)?;
+            insert_at(list, spot, follows)?;
         }
     }
     Ok(())

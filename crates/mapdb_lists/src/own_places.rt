@@ -152,7 +152,7 @@ fn place_of(found: Option<FoundPlace>) -> Option<OwnPlace>
 #[derive(Drop)]
 pub enum OwnPlaces {
     /// A few, as they came.
-    Few(SmallVec<OwnPlace, 2>),
+    Few(SmallVec<OwnPlace, 1>),
     /// Many, in ascending order.
     Many(ManyPlaces),
 }

@@ -26,14 +26,14 @@ returns-then-is-clause-once c same = listed_gap c.args.list.now.items c.requires
 
 pub returns-clause-rise : goal.returns-clause-rise
 returns-clause-rise c =
-    subst (λ (l : List PageChange). PagesRise l) (sym c.in_ok-insert.ensures.ok)
+    subst (λ (l : List PageChange). PagesRise l) (sym c.in_ok-insert_at.ensures.ok)
     (insert_rises c.args.list.now.items c.requires.rise c.args.page c.args.index c.args.change c.requires.gap)
 
 pub returns-clause-spot : goal.returns-clause-spot
 returns-clause-spot c =
     let xs = c.args.list.now.items in
     let next : PageChange = record { page = c.args.page; change = c.args.change } in
-    subst (λ (l : List PageChange). IsSpot l c.args.page (c.args.index + 1)) (sym c.in_ok-insert.ensures.ok)
+    subst (λ (l : List PageChange). IsSpot l c.args.page (c.args.index + 1)) (sym c.in_ok-insert_at.ensures.ok)
     (spot_behind (insert xs c.args.index next) (insert_rises xs c.requires.rise c.args.page c.args.index c.args.change c.requires.gap)
     c.args.page c.args.index (insert_stands xs c.requires.rise c.args.page c.args.index c.args.change c.requires.gap))
 
@@ -42,7 +42,7 @@ returns-clause-there c =
     let xs = c.args.list.now.items in
     let next : PageChange = record { page = c.args.page; change = c.args.change } in
     ap (λ (o : Option Change). unwrap_or o (left_before (listed_change xs) c.args.before c.args.page))
-    (ap (λ (l : List PageChange). listed_change l c.args.page) c.in_ok-insert.ensures.ok
+    (ap (λ (l : List PageChange). listed_change l c.args.page) c.in_ok-insert_at.ensures.ok
     ∙ put_here (listed_change xs) (listed_change (insert xs c.args.index next)) c.args.page (Some c.args.change)
     (put_between xs c.args.index c.args.page c.args.change c.requires.gap))
 
@@ -50,6 +50,6 @@ pub returns-clause-elsewhere : goal.returns-clause-elsewhere
 returns-clause-elsewhere c q apart =
     let xs = c.args.list.now.items in
     let next : PageChange = record { page = c.args.page; change = c.args.change } in
-    ap (λ (l : List PageChange). listed_change l q) c.in_ok-insert.ensures.ok
+    ap (λ (l : List PageChange). listed_change l q) c.in_ok-insert_at.ensures.ok
     ∙ put_elsewhere (listed_change xs) (listed_change (insert xs c.args.index next)) c.args.page (Some c.args.change)
     (put_between xs c.args.index c.args.page c.args.change c.requires.gap) q apart

@@ -40,27 +40,27 @@ returns-in-Some-clause-elsewhere c q apart =
     ∙ put_elsewhere (listed_change xs) (listed_change (remove xs c.args.spot)) c.args.end None
     (removed xs c.requires.rise c.args.spot c.args.end (subst (λ (l : List PageChange). StandsAtPage l c.args.end c.args.spot) c.as_slice.ensures c.in-Some.ensures.there)) q apart
 
-pub returns-in_ok-insert-in-None-clause-rise : goal.returns-in_ok-insert-in-None-clause-rise
-returns-in_ok-insert-in-None-clause-rise c =
+pub returns-in_ok-insert_at-in-None-clause-rise : goal.returns-in_ok-insert_at-in-None-clause-rise
+returns-in_ok-insert_at-in-None-clause-rise c =
     let xs = c.args.list.now.items in
     let gap : IsGap xs c.args.end c.args.spot = gap_at_end xs c.requires.rise c.args.first c.args.end c.args.spot c.requires.spot c.requires.some c.requires.one
     (subst (λ (l : List PageChange). (d : PageChange) → c.args.spot < length l → (get_or l c.args.spot d).page ≡ c.args.end → ⊥) c.as_slice.ensures c.in-None.ensures.none) in
-    subst (λ (l : List PageChange). PagesRise l) (sym c.in_ok-insert-in-None.ensures.ok)
+    subst (λ (l : List PageChange). PagesRise l) (sym c.in_ok-insert_at-in-None.ensures.ok)
     (insert_rises xs c.requires.rise c.args.end c.args.spot c.args.was gap)
 
-pub returns-in_ok-insert-in-None-clause-there : goal.returns-in_ok-insert-in-None-clause-there
-returns-in_ok-insert-in-None-clause-there c inside =
+pub returns-in_ok-insert_at-in-None-clause-there : goal.returns-in_ok-insert_at-in-None-clause-there
+returns-in_ok-insert_at-in-None-clause-there c inside =
     let xs = c.args.list.now.items in
     let next : PageChange = record { page = c.args.end; change = c.args.was } in
     let gap : IsGap xs c.args.end c.args.spot = gap_at_end xs c.requires.rise c.args.first c.args.end c.args.spot c.requires.spot c.requires.some c.requires.one
     (subst (λ (l : List PageChange). (d : PageChange) → c.args.spot < length l → (get_or l c.args.spot d).page ≡ c.args.end → ⊥) c.as_slice.ensures c.in-None.ensures.none) in
     ap (λ (o : Option Change). unwrap_or o c.args.change)
-    (ap (λ (l : List PageChange). listed_change l c.args.end) c.in_ok-insert-in-None.ensures.ok
+    (ap (λ (l : List PageChange). listed_change l c.args.end) c.in_ok-insert_at-in-None.ensures.ok
     ∙ put_here (listed_change xs) (listed_change (insert xs c.args.spot next)) c.args.end (Some c.args.was) (put_between xs c.args.spot c.args.end c.args.was gap))
     ∙ sym (ap (λ (o : Option Change). unwrap_or o c.args.was) (listed_gap xs c.requires.rise c.args.end c.args.spot gap))
 
-pub returns-in_ok-insert-in-None-clause-once : goal.returns-in_ok-insert-in-None-clause-once
-returns-in_ok-insert-in-None-clause-once c inside known =
+pub returns-in_ok-insert_at-in-None-clause-once : goal.returns-in_ok-insert_at-in-None-clause-once
+returns-in_ok-insert_at-in-None-clause-once c inside known =
     let xs = c.args.list.now.items in
     let gap : IsGap xs c.args.end c.args.spot = gap_at_end xs c.requires.rise c.args.first c.args.end c.args.spot c.requires.spot c.requires.some c.requires.one
     (subst (λ (l : List PageChange). (d : PageChange) → c.args.spot < length l → (get_or l c.args.spot d).page ≡ c.args.end → ⊥) c.as_slice.ensures c.in-None.ensures.none) in
@@ -69,11 +69,11 @@ returns-in_ok-insert-in-None-clause-once c inside known =
     some_none : {change : Change} → Some change ≡ None → ⊥
     some_none e = search rules
 
-pub returns-in_ok-insert-in-None-clause-elsewhere : goal.returns-in_ok-insert-in-None-clause-elsewhere
-returns-in_ok-insert-in-None-clause-elsewhere c q apart =
+pub returns-in_ok-insert_at-in-None-clause-elsewhere : goal.returns-in_ok-insert_at-in-None-clause-elsewhere
+returns-in_ok-insert_at-in-None-clause-elsewhere c q apart =
     let xs = c.args.list.now.items in
     let next : PageChange = record { page = c.args.end; change = c.args.was } in
     let gap : IsGap xs c.args.end c.args.spot = gap_at_end xs c.requires.rise c.args.first c.args.end c.args.spot c.requires.spot c.requires.some c.requires.one
     (subst (λ (l : List PageChange). (d : PageChange) → c.args.spot < length l → (get_or l c.args.spot d).page ≡ c.args.end → ⊥) c.as_slice.ensures c.in-None.ensures.none) in
-    ap (λ (l : List PageChange). listed_change l q) c.in_ok-insert-in-None.ensures.ok
+    ap (λ (l : List PageChange). listed_change l q) c.in_ok-insert_at-in-None.ensures.ok
     ∙ put_elsewhere (listed_change xs) (listed_change (insert xs c.args.spot next)) c.args.end (Some c.args.was) (put_between xs c.args.spot c.args.end c.args.was gap) q apart
