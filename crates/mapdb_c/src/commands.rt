@@ -25,20 +25,14 @@ fn item_of(first: u64, second: u64) -> Result<MapItem, Status>
 fn window_of_word(word: u64) -> Result<Option<Fpage>, Status>
     ensures { result ≡ window_given word }
 {
-    match Fpage::window_from_word(word) {
-        Ok(window) => Ok(window),
-        Err(fault) => Err(word_status(fault)),
-    }
+    Fpage::window_from_word(word).map_err(word_status)
 }
 
 /// The fpage and the rights of a word.
 fn word_page(word: u64) -> Result<(Option<Fpage>, Rights), Status>
     ensures { result ≡ word_page word }
 {
-    match Fpage::from_word(word) {
-        Ok(named) => Ok(named),
-        Err(fault) => Err(word_status(fault)),
-    }
+    Fpage::from_word(word).map_err(word_status)
 }
 
 /// The Map of an item that is given by value. What is wrong is looked for in the order of the

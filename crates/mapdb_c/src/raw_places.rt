@@ -63,10 +63,7 @@ pub fn rights_of(value: u32) -> Result<Rights, Status>
     if value >= RIGHTS_LIMIT {
         return Err(Status::BadRights);
     }
-    match Rights::from_bits(value as u8) {
-        Some(rights) => Ok(rights),
-        None => Err(Status::BadRights),
-    }
+    Rights::from_bits(value as u8).ok_or(Status::BadRights)
 }
 
 /// The place of `2^order` bytes from the address on, or why there is none.
@@ -76,10 +73,7 @@ pub fn place_of(address: u64, order: u32) -> Result<Fpage, Status>
     if order > TOP_ORDER as u32 {
         return Err(Status::TooLarge);
     }
-    match Fpage::new(address, order as u8) {
-        Ok(place) => Ok(place),
-        Err(fault) => Err(place_status(fault)),
-    }
+    Fpage::new(address, order as u8).map_err(place_status)
 }
 
 /// The place, or none where the order is that of nil.

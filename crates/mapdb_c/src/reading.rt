@@ -45,10 +45,7 @@ impl<T: Drop> From<AllocFailed<T>> for Unread {
 fn operation_at(raw: &RawOperation, place: usize) -> Result<Op, Unread>
     ensures { result ≡ operation_at place raw.now }
 {
-    match operation_of(raw) {
-        Ok(op) => Ok(op),
-        Err(why) => Err(Unread::Bad(why, place)),
-    }
+    operation_of(raw).map_err(|why| Unread::Bad(why, place))
 }
 
 /// The operations that those of C's say, or the first that is none. Memory may run out in place

@@ -118,10 +118,7 @@ fn write_text<W: Sink>(writer: &mut W, text: &str) -> Result<(), TellFault>
     ensures works { (result ≡ Err TellFault.Write)
         ⊎ (W.has_failed writer.new ≡ W.has_failed writer.old) }
 {
-    match write_all(writer, text.as_bytes()) {
-        Ok(()) => Ok(()),
-        Err(_) => Err(TellFault::Write),
-    }
+    write_all(writer, text.as_bytes()).map_err(|_| TellFault::Write)
 }
 
 /// Reads a snapshot, and writes what is asked of it. At Ok all was read and written. Where the text

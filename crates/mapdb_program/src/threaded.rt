@@ -104,10 +104,7 @@ fn write_text<W: Sink>(writer: &mut W, text: &str) -> Result<(), ThreadsFault>
         ⊎ (W.has_failed writer.new ≡ W.has_failed writer.old) }
     ensures unread { result ≡ Err read_failed → ⊥ }
 {
-    match write_all(writer, text.as_bytes()) {
-        Ok(()) => Ok(()),
-        Err(_) => Err(ThreadsFault::Script(ScriptFault::Write)),
-    }
+    write_all(writer, text.as_bytes()).map_err(|_| ThreadsFault::Script(ScriptFault::Write))
 }
 
 /// Writes the text of a report.
