@@ -2,7 +2,6 @@
 # installation. The archive is proved and built by `rt`, the command of the kit (README.md).
 
 PREFIX ?= /usr/local
-CC ?= cc
 CFLAGS ?= -O2 -Wall -Wextra
 ARCHIVE = crates/mapdb_c/out/libmapdb_c.a
 SOURCES = $(shell find crates -path '*/out' -prune -o -name '*.rt' -print -o -name '*.antt' -print)
@@ -14,15 +13,15 @@ $(ARCHIVE): crates.txt $(SOURCES)
 	./prove mapdb_c
 	touch $@
 
-$(BUILT)/mapdb_heap.o: c/mapdb_heap.c
+$(BUILT)/mapdb_heap.o: c/mapdb_heap.c include/mapdb.h
 	mkdir -p $(BUILT)
-	$(CC) $(CFLAGS) -c -o $@ $<
+	$(CC) $(CPPFLAGS) $(CFLAGS) -Iinclude -c -o $@ $<
 
 $(BUILT)/%: examples/c/%.c include/mapdb.h $(BUILT)/mapdb_heap.o $(ARCHIVE)
-	$(CC) $(CFLAGS) -Iinclude -pthread -o $@ $< $(BUILT)/mapdb_heap.o $(ARCHIVE)
+	$(CC) $(CPPFLAGS) $(CFLAGS) -Iinclude -pthread $(LDFLAGS) -o $@ $< $(BUILT)/mapdb_heap.o $(ARCHIVE)
 
 $(BUILT)/calls: bench/c/calls.c include/mapdb.h $(BUILT)/mapdb_heap.o $(ARCHIVE)
-	$(CC) $(CFLAGS) -Iinclude -o $@ $< $(BUILT)/mapdb_heap.o $(ARCHIVE)
+	$(CC) $(CPPFLAGS) $(CFLAGS) -Iinclude $(LDFLAGS) -o $@ $< $(BUILT)/mapdb_heap.o $(ARCHIVE)
 
 # The heap over malloc has an archive of its own, which a kernel with a heap leaves out: mapdb.pc
 # names the library alone, and mapdb-heap.pc both. They name the folder of this installation, so

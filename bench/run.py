@@ -37,6 +37,8 @@ def options() -> argparse.Namespace:
     for name in chosen.names:
         if name not in WORKS:
             parser.error("no such work: %s" % name)
+    if chosen.beside and shutil.which(shlex.split(chosen.beside)[0]) is None:
+        parser.error("no such program: %s" % chosen.beside)
     return chosen
 
 

@@ -6,18 +6,8 @@
  * malloc aligns blocks to 16. The pointer is never null, also where there is no memory. These
  * functions are trusted: no proof speaks of them.
  */
-#include <stdbool.h>
-#include <stddef.h>
+#include "mapdb.h"
 #include <stdlib.h>
-
-typedef struct mapdb_block {
-    bool ok;
-    void *block;
-} mapdb_block;
-
-mapdb_block rattle_alloc(size_t size, size_t alignment);
-mapdb_block rattle_realloc(void *old, size_t kept, size_t size, size_t alignment);
-void rattle_dealloc(void *block);
 
 static char no_block;
 

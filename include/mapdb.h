@@ -7,12 +7,8 @@
  * docs/KERNELS.md says what a kernel does beside that.
  *
  * Link libmapdb_c.a. It wants memcpy, memmove and memset as of C (memcpy also from a place to
- * itself, and all three with size 0 whatever the pointers), and three functions for its heap:
- *
- *     struct { bool ok; void *block; } rattle_alloc(size_t size, size_t alignment);
- *     struct { bool ok; void *block; } rattle_realloc(void *old, size_t kept, size_t size,
- *                                                     size_t alignment);
- *     void rattle_dealloc(void *block);
+ * itself, and all three with size 0 whatever the pointers), and three functions for its heap, which
+ * are declared below:
  *
  *  - rattle_alloc gives a block of `size` bytes, or of `alignment` bytes where the size is 0, at a
  *    multiple of `alignment`. An alignment divides 16, and a size is below 2^63. Whether there is
@@ -26,7 +22,7 @@
  * They may refuse at any time. c/mapdb_heap.c has them over malloc.
  *
  * The code uses SSE registers, and the red zone below the stack pointer: enter calls with the stack
- * aligned to 16 bytes and 16 kB of it free (96 kB at mapdb_load), have interrupts on a stack of
+ * aligned to 16 bytes and 24 kB of it free (96 kB at mapdb_load), have interrupts on a stack of
  * their own, and save the vector registers where the thread that calls does not own them.
  *
  * No call waits, takes a lock or starts a thread. No call changes anything but its copy, its heap
@@ -71,6 +67,15 @@ extern "C" {
 #define MAPDB_CALL
 #define MAPDB_NONNULL
 #endif
+
+/* A block of the heap, or none; and the heap's functions, which the library calls: see above. */
+typedef struct mapdb_block {
+    bool ok;
+    void *block;
+} mapdb_block;
+mapdb_block rattle_alloc(size_t size, size_t alignment);
+mapdb_block rattle_realloc(void *old, size_t kept, size_t size, size_t alignment);
+void rattle_dealloc(void *block);
 
 /* The version of the library. */
 #define MAPDB_VERSION "1.0.0"
@@ -165,7 +170,8 @@ static inline const char *mapdb_status_name(uint32_t status)
 }
 
 /*
- * A copy, or none. It is MAPDB_EMPTY before the first call; then the calls alone write it.
+ * A copy, or none. It is MAPDB_EMPTY before the first call, or bytes that are 0, as static memory is
+ * at first; then the calls alone write it.
  */
 typedef struct mapdb_copy {
     void *at;
@@ -486,7 +492,7 @@ MAPDB_CALL uint32_t mapdb_load(mapdb_copy *copy, const uint8_t *text, size_t len
     mapdb_taken *taken);
 
 /* What the archive was built for. */
-#if defined(__cplusplus)
+#if defined(__cplusplus) && __cplusplus >= 201103L
 #define MAPDB_ASSERT(claim) static_assert(claim, #claim)
 #else
 #define MAPDB_ASSERT_AT(claim, line) typedef char mapdb_assert_##line[(claim) ? 1 : -1]
@@ -529,6 +535,7 @@ MAPDB_ASSERT(offsetof(mapdb_row, count) == 16);
 MAPDB_ASSERT(offsetof(mapdb_row, frame) == 24);
 MAPDB_ASSERT(offsetof(mapdb_row, rights) == 32);
 MAPDB_ASSERT(offsetof(mapdb_row, reserved) == 36);
+#undef MAPDB_ASSERT
 
 #ifdef __cplusplus
 }

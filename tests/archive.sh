@@ -35,7 +35,7 @@ for name in $(below mapdb_c); do
     words+=(-L "dependency=$top/crates/$name/out/rlib")
 done
 words+=(--antt-project "$kit/rattle/logic/antt-project.json" --logic-built "$kit/logic_built")
-words+=(--jobs "${RT_JOBS:-$(nproc)}" --links mapdb_c= --crate-type staticlib)
+words+=(--jobs "${RT_JOBS:-1}" --links mapdb_c= --crate-type staticlib)
 words+=(--toolchain "$kit/toolchain" --backend llvm -o "$archive")
 
 log=$(mktemp)

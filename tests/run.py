@@ -56,6 +56,10 @@ def options() -> argparse.Namespace:
     for kind in found.kinds:
         if kind not in KINDS:
             parser.error("no such kind: %s" % kind)
+    for name in ("jobs", "count", "minutes"):
+        number = getattr(found, name)
+        if number is not None and number <= 0:
+            parser.error("--%s is above 0" % name)
     return found
 
 

@@ -3,13 +3,15 @@
 
     tests/shown.py TEXT PROGRAM
 
-A command stands behind `$ ` in an indented block, and the lines below it are what it writes. The
+A command stands behind `$ ` in an indented block, and the lines below it are what it writes. A block
+that begins with `processors` is a script, and what it writes stands below the word `writes`. The
 commands run in a folder that has the examples and PROGRAM as `l4map`. `many-machines/run.sh` is
 left out, since its counts differ from run to run, and `make`. The status is 0 only where all is as
 shown.
 """
 
 import os
+import re
 import subprocess
 import sys
 import tempfile
@@ -20,19 +22,34 @@ SECONDS = 60
 
 
 def commands_in(text: str) -> list[tuple[str, list[str]]]:
-    """The commands of a text, each with the lines that stand below it in its block."""
+    """The commands of a text, each with the lines that stand below it in its block, without what
+    indents the block."""
     found: list[tuple[str, list[str]]] = []
-    is_below = False
+    is_below, indent = False, 0
     for line in text.split("\n"):
-        content = line.strip()
-        if line.startswith("    ") and content.startswith("$ "):
-            found.append((content[2:], []))
-            is_below = True
+        if line.startswith("    ") and line.lstrip().startswith("$ "):
+            found.append((line.strip()[2:], []))
+            is_below, indent = True, len(line) - len(line.lstrip())
         elif line.startswith("    ") and is_below:
-            found[-1][1].append(content)
+            found[-1][1].append(line.rstrip()[indent:])
         else:
             is_below = False
     return found
+
+
+def scripts_in(text: str) -> list[tuple[str, list[str]]]:
+    """The scripts of a text, as commands, each with what the text says that it writes."""
+    found = re.findall(
+        r"^    (processors .*\n(?:    .*\n)+)\nwrites\n\n((?:    .*\n)+)", text, re.MULTILINE
+    )
+    return [command_of(script.replace("\n    ", "\n"), written) for script, written in found]
+
+
+def command_of(script: str, written: str) -> tuple[str, list[str]]:
+    """The command that runs a script, and the lines that it is said to write."""
+    lines = [line[4:] for line in written.splitlines()]
+    name = "threads" if lines[0].startswith("processor 0 ") else "run"
+    return "./l4map %s <<'end'\n%send" % (name, script), lines
 
 
 def written_by(command: str, folder: str) -> list[str]:
@@ -45,13 +62,14 @@ def written_by(command: str, folder: str) -> list[str]:
         text=True,
         timeout=SECONDS,
     )
-    return [line.strip() for line in done.stdout.splitlines()]
+    return [line.rstrip() for line in done.stdout.splitlines()]
 
 
 def main() -> int:
     path, program = sys.argv[1:]
     with open(path) as file:
-        commands = commands_in(file.read())
+        text = file.read()
+    commands = commands_in(text) + scripts_in(text)
     differences = 0
     with tempfile.TemporaryDirectory() as folder:
         os.symlink(os.path.join(TOP, "examples"), os.path.join(folder, "examples"))

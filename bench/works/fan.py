@@ -28,7 +28,7 @@ def regions(most: int, pages: int, places: dict, random: Random) -> Iterator[str
     """Unmaps of regions, which issue at most so many operations; each with a question after a page
     of its region."""
     while most > 0:
-        count = random.choice(SIZES)
+        count = min(random.choice(SIZES), pages)
         first = random.randrange(pages // count) * count
         hit = [page for page in range(first, first + count) if page in places]
         flush = random.random() < 0.1

@@ -2,10 +2,14 @@
  * Two threads stand for two processors. Each has a copy of its own, maps and unmaps there, and
  * sends what it issued over a channel to the other, which takes it in another order than it was
  * issued. At the end both copies answer alike.
+ *
+ * A channel has room for all that is sent. A kernel's is a ring: who finds it full keeps the
+ * operations for later.
  */
 #include "mapdb.h"
 #include <pthread.h>
 #include <stdio.h>
+#include <stdlib.h>
 #include <string.h>
 
 enum { ROUNDS = 8, BATCH = 16, CHANNEL = 512, TRIES = 100 };
@@ -38,15 +42,19 @@ static void expect(processor *self, uint32_t status, const char *what)
     }
 }
 
-static void open_channel(channel *opened)
+static bool open_channel(channel *opened)
 {
-    pthread_mutex_init(&opened->lock, NULL);
-    pthread_cond_init(&opened->changed, NULL);
+    return pthread_mutex_init(&opened->lock, NULL) == 0 &&
+           pthread_cond_init(&opened->changed, NULL) == 0;
 }
 
 static void put_on(channel *out, const mapdb_operation *operations, size_t count)
 {
     pthread_mutex_lock(&out->lock);
+    if (count > CHANNEL - out->written) {
+        fprintf(stderr, "a channel is full\n");
+        abort();
+    }
     memcpy(out->operations + out->written, operations, count * sizeof *operations);
     out->written += count;
     pthread_cond_signal(&out->changed);
@@ -185,15 +193,15 @@ int main(void)
     uint32_t held = 0, own = 0;
     int different;
 
-    open_channel(&there);
-    open_channel(&back);
+    if (!open_channel(&there) || !open_channel(&back))
+        return 1;
     expect(&one, mapdb_create(&one.copy, one.number), "create");
     expect(&other, mapdb_create(&other.copy, other.number), "create");
     if (pthread_create(&threads[0], NULL, run, &one) != 0 ||
         pthread_create(&threads[1], NULL, run, &other) != 0)
         return 1;
-    pthread_join(threads[0], NULL);
-    pthread_join(threads[1], NULL);
+    if (pthread_join(threads[0], NULL) != 0 || pthread_join(threads[1], NULL) != 0)
+        return 1;
     expect(&one, mapdb_same(&one.copy, &other.copy, &same), "same");
     expect(&one, mapdb_counts(&one.copy, &held, &own), "counts");
     different = differences(&one, &other);

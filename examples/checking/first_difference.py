@@ -7,7 +7,8 @@ A log is a script for `l4map run`, with the kernel's answers as comments: `#= AN
 Lines without an answer are replayed and not compared. A page that shows less than the database does
 is no difference, but with --exact it is. The program is L4MAP, or crates/l4map/out/l4map.
 
-The status is 0 where there is no difference, 1 where there is one, and 2 where the replay failed.
+The status is 0 where there is no difference, 1 where there is one, and 2 where nothing can be said:
+the log cannot be read, has no answer or is no script, or the replay failed.
 """
 
 import argparse
@@ -38,7 +39,10 @@ class Line(NamedTuple):
 
     def processor(self) -> str:
         """The processor whose copy is asked or changed."""
-        return self.text.split()[2 if self.word() == "deliver" else 1]
+        words = self.text.split()
+        if words[0] == "tree":
+            return "0"
+        return words[2 if words[0] == "deliver" else 1]
 
 
 def lines_in(log: str) -> list[Line]:
@@ -114,6 +118,9 @@ def compare(lines: list[Line], output: str, exact: bool) -> int:
         print("the log is no script: %s" % fault)
         return 2
     compared = sum(1 for line, _ in replayed if line.shown)
+    if not compared:
+        print("the log has no answer to compare")
+        return 2
     print("no difference: %d answers compared, %d of them show less" % (compared, less))
     return 0
 
@@ -127,8 +134,12 @@ def main() -> int:
     if not os.access(program, os.X_OK):
         print("%s is not there: ./l4map builds it, and L4MAP names another" % program)
         return 2
-    with open(chosen.log, "rb") as file:
-        log = file.read()
+    try:
+        with open(chosen.log, "rb") as file:
+            log = file.read()
+    except OSError as error:
+        print(error)
+        return 2
     done = subprocess.run([program, "run"], input=log, capture_output=True)
     if done.returncode > 1 or done.returncode < 0:
         print("the replay ended with status %d" % done.returncode)

@@ -8,7 +8,7 @@ when a page is touched. With --bug, a processor that takes a revocation out of a
 page of the record that the message names, and forgets what came from it.
 """
 
-import sys
+import argparse
 from typing import NamedTuple, Optional
 
 Name = tuple[int, int]
@@ -229,7 +229,9 @@ def hear_back(kernel: Kernel) -> None:
 
 
 def main() -> None:
-    kernel = Kernel(has_bug="--bug" in sys.argv[1:])
+    parser = argparse.ArgumentParser(description="Writes the log of a kernel of two processors.")
+    parser.add_argument("--bug", action="store_true", help="with a fault in it")
+    kernel = Kernel(has_bug=parser.parse_args().bug)
     share(kernel)
     take_back(kernel)
     hear_back(kernel)

@@ -71,4 +71,7 @@ class Broker:
             return None
         if kind == b"*":
             return [self.reply() for _ in range(count)]
-        return self.replies.read(count + 2)[:-2]
+        text = self.replies.read(count + 2)
+        if len(text) != count + 2:
+            raise BrokerError("the broker went away")
+        return text[:-2]

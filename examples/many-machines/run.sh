@@ -49,7 +49,12 @@ wait_until() {
 }
 
 free_port() {
-    python3 -c 'import socket; s = socket.socket(); s.bind(("127.0.0.1", 0)); print(s.getsockname()[1])'
+    python3 -c '
+import socket
+
+with socket.socket() as listening:
+    listening.bind(("127.0.0.1", 0))
+    print(listening.getsockname()[1])'
 }
 
 is_listening() {
@@ -64,8 +69,8 @@ is_settled() {
 # Nothing is stored: what the broker has is gone with it.
 start_broker() {
     port=$(free_port)
-    timeout 60 redis-server --bind 127.0.0.1 --port "$port" --dir "$folder" --save '' --appendonly no \
-        >"$folder/broker.log" 2>&1 &
+    timeout 60 redis-server --bind 127.0.0.1 --port "$port" --dir "$folder" --save '' \
+        --appendonly no >"$folder/broker.log" 2>&1 &
     broker=$!
     wait_until is_settled
     is_listening || fail "the broker"
@@ -75,8 +80,8 @@ start_broker() {
 # Starts a machine, or starts it again; with a number of commands, after which it breaks off.
 start_machine() {
     : >"$folder/machine-$1.log"
-    python3 "$here/machine.py" "$1" "$port" "$folder" "$program" "$here/machine-$1.commands" "${@:2}" \
-        >>"$folder/machine-$1.log" 2>&1 &
+    python3 "$here/machine.py" "$1" "$port" "$folder" "$program" "$here/machine-$1.commands" \
+        "${@:2}" >>"$folder/machine-$1.log" 2>&1 &
     machines[$1]=$!
 }
 
@@ -152,5 +157,6 @@ for number in 1 2; do
     cmp "$folder/snapshot-0" "$folder/snapshot-$number" || fail "the snapshots differ"
 done
 echo "the three snapshots are the same, byte for byte: $(wc -c <"$folder/snapshot-0") bytes"
-printf 'processors 1\nload 0 %s\nserved 0 3 c0000\n' "$(cat "$folder/snapshot-0")" | "$program" run >"$folder/answer"
-echo "by each of them, space 3 at c0000: $(tail -n 1 "$folder/answer")"
+printf 'processors 1\nload 0 %s\nserved 0 3 c0000\n' "$(cat "$folder/snapshot-0")" |
+    "$program" run >"$folder/answer" || fail "the last question"
+echo "by their snapshot, space 3 at c0000: $(tail -n 1 "$folder/answer")"

@@ -11,19 +11,37 @@ static const mapdb_space far_space = {65536, 0};
 /* The page and the window of that map by words. */
 static const uint64_t first_word = 0x8008, second_word = 0x100e6, window_word = 0x40100;
 
+/* Bytes that no call writes, to see what was left as it was. */
+#define UNTOUCHED 0x55
+
+static bool is_untouched(const void *place, size_t size)
+{
+    const unsigned char *bytes = (const unsigned char *)place;
+
+    while (size > 0 && bytes[size - 1] == UNTOUCHED)
+        size--;
+    return size == 0;
+}
+
 static void no_copy(void)
 {
     mapdb_copy none = MAPDB_EMPTY, some = created(0);
     mapdb_issued issued;
     mapdb_found found;
     mapdb_taken taken;
-    mapdb_operation operation = {0, 0, 0, 0, 0, 0, {0, 0}, 0, 0, 0, 0};
+    mapdb_operation operation;
     mapdb_row row;
     uint8_t text[1];
     uint64_t count = 77;
     uint32_t held = 77, own = 77, version = 77;
     bool answer = true;
 
+    memset(&issued, UNTOUCHED, sizeof issued);
+    memset(&found, UNTOUCHED, sizeof found);
+    memset(&taken, UNTOUCHED, sizeof taken);
+    memset(&operation, UNTOUCHED, sizeof operation);
+    memset(&row, UNTOUCHED, sizeof row);
+    memset(text, UNTOUCHED, sizeof text);
     CHECK(mapdb_map(&none, root, 0, &page, one, &window, &issued), MAPDB_NO_COPY);
     CHECK(mapdb_map_words(&none, root, first_word, second_word, one, window_word, &issued),
           MAPDB_NO_COPY);
@@ -46,6 +64,9 @@ static void no_copy(void)
     CHECK(mapdb_snapshot(&none, text, 1, &count), MAPDB_NO_COPY);
     CHECK(mapdb_load(&none, text, 0, &taken), MAPDB_NO_COPY);
     CHECK(count == 77 && held == 77 && own == 77 && version == 77 && answer, 1);
+    CHECK(is_untouched(&issued, sizeof issued) && is_untouched(&found, sizeof found), 1);
+    CHECK(is_untouched(&taken, sizeof taken) && is_untouched(&row, sizeof row), 1);
+    CHECK(is_untouched(&operation, sizeof operation) && is_untouched(text, sizeof text), 1);
     CHECK(none.at == NULL && some.at != NULL, 1);
     mapdb_destroy(&none);
     mapdb_destroy(&some);
@@ -83,9 +104,11 @@ static void mapping(void)
     CHECK(issued.first == 2 && issued.count == 1, 1);
     CHECK(map(&copy, one, fpage(0, 0, 7), two, &issued), MAPDB_DONE);
     CHECK(issued.first == 0 && issued.count == 0, 1);
+    memset(&issued, UNTOUCHED, sizeof issued);
     CHECK(map(&copy, far_space, bad, one, &issued), MAPDB_BAD_SPACE);
     CHECK(map(&copy, root, page, far_space, &issued), MAPDB_BAD_SPACE);
     CHECK(map(&copy, root, bad, far_space, &issued), MAPDB_UNALIGNED);
+    CHECK(is_untouched(&issued, sizeof issued), 1);
     CHECK(map(&copy, root, fpage(0x10000, 11, 8), one, &issued), MAPDB_TOO_SMALL);
     CHECK(map(&copy, root, fpage(0x10000, 49, 6), one, &issued), MAPDB_TOO_LARGE);
     CHECK(map(&copy, root, fpage(0x10000, 256 + 14, 6), one, &issued), MAPDB_TOO_LARGE);
@@ -270,8 +293,33 @@ static void taking(void)
     other.space.number = 2;
     CHECK(mapdb_take(&copy, &other, 1, &taken), MAPDB_CLASH);
     CHECK(taken.number == 1 && taken.processor == 0 && taken.count == 0, 1);
-    other.reserved = 5;
     CHECK(mapdb_take(&copy, &good, 0, &taken), MAPDB_DONE);
+    mapdb_destroy(&copy);
+    mapdb_destroy(&source);
+}
+
+/* Fields that the kind of an operation does not use are not looked at, nor the one that is reserved
+ * of any kind. */
+static void fields_that_are_not_looked_at(void)
+{
+    mapdb_copy copy = created(1), source = created(0);
+    mapdb_issued issued;
+    mapdb_operation record, end;
+    mapdb_taken taken;
+    uint64_t count;
+
+    CHECK(map(&source, root, page, one, &issued), MAPDB_DONE);
+    CHECK(mapdb_give(&source, 0, 1, &record, 1, &count), MAPDB_DONE);
+    CHECK(mapdb_take(&copy, &record, 1, &taken), MAPDB_DONE);
+    record.reserved = 5;
+    CHECK(mapdb_take(&copy, &record, 1, &taken), MAPDB_DONE);
+    CHECK(taken.count, 0);
+    memset(&end, 0xff, sizeof end);
+    end.kind = MAPDB_END;
+    end.space = two;
+    CHECK(mapdb_take(&copy, &end, 1, &taken), MAPDB_DONE);
+    CHECK(taken.count, 1);
+    CHECK(mapdb_end(&copy, two, &issued), MAPDB_SPACE_ENDED);
     mapdb_destroy(&copy);
     mapdb_destroy(&source);
 }
@@ -355,6 +403,7 @@ int main(void)
     ending();
     giving();
     taking();
+    fields_that_are_not_looked_at();
     filling();
     spending();
     CHECK(heap_blocks, 0);

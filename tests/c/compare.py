@@ -32,7 +32,10 @@ def options() -> argparse.Namespace:
     )
     parser.add_argument("--count", type=int, default=1000, help="how many scripts are compared")
     parser.add_argument("--seed", type=int, default=1, help="the first seed")
-    return parser.parse_args()
+    chosen = parser.parse_args()
+    if chosen.count < 1:
+        parser.error("--count is above 0")
+    return chosen
 
 
 def replies(command: list[str], text: bytes) -> tuple[int, bytes]:
@@ -49,7 +52,8 @@ def without_trees(text: bytes) -> bytes:
 
 
 def script_of(seed: int, program: str) -> bytes:
-    """The script of a seed as the driver takes it; empty where that is none."""
+    """The script of a seed as the driver takes it; empty where that is none. A program that ends in
+    another way than at a faulty line ends the comparison."""
     case = case_of(seed, may_be_great=False)
     if case.command != "run":
         return b""
@@ -58,8 +62,8 @@ def script_of(seed: int, program: str) -> bytes:
     if status == 0:
         return text
     fault = output.rstrip(b"\n").split(b"\n")[-1].split(b" ")
-    if len(fault) < 2 or fault[0] != b"line":
-        return b""
+    if status != 1 or fault[0] != b"line":
+        sys.exit("seed %d: the program ended with status %d" % (seed, status))
     return b"".join(line + b"\n" for line in text.split(b"\n")[: int(fault[1]) - 1])
 
 

@@ -1,16 +1,6 @@
 #include "counting_heap.h"
-#include <stdbool.h>
-#include <stddef.h>
+#include "mapdb.h"
 #include <stdlib.h>
-
-typedef struct mapdb_block {
-    bool ok;
-    void *block;
-} mapdb_block;
-
-mapdb_block rattle_alloc(size_t size, size_t alignment);
-mapdb_block rattle_realloc(void *old, size_t kept, size_t size, size_t alignment);
-void rattle_dealloc(void *block);
 
 unsigned long heap_requests, heap_refused;
 long heap_blocks;

@@ -4,14 +4,6 @@
  */
 #include "mapdb.h"
 
-typedef struct mapdb_block {
-    bool ok;
-    void *block;
-} mapdb_block;
-
-mapdb_block rattle_alloc(size_t size, size_t alignment);
-mapdb_block rattle_realloc(void *old, size_t kept, size_t size, size_t alignment);
-void rattle_dealloc(void *block);
 void *memcpy(void *to, const void *from, size_t size);
 void *memmove(void *to, const void *from, size_t size);
 void *memset(void *to, int byte, size_t size);

@@ -7,15 +7,12 @@ static const mapdb_space far_space = {65536, 0};
 
 static void asking(void)
 {
-    mapdb_copy copy = created(0), other = created(1);
+    mapdb_copy copy = created(0);
     mapdb_issued issued;
     mapdb_found found, room[3];
     mapdb_fpage next = fpage(0x20000, 14, MAPDB_READ);
-    mapdb_operation given[2];
-    mapdb_taken taken;
     uint64_t count = 0;
     uint64_t end = 0;
-    bool answer = false;
 
     CHECK(map(&copy, root, page, one, &issued), MAPDB_DONE);
     CHECK(map(&copy, root, next, one, &issued), MAPDB_DONE);
@@ -44,6 +41,21 @@ static void asking(void)
     CHECK(mapdb_rights(&copy, two, 0x4b, room, 3, &count), MAPDB_DONE);
     CHECK(count, 0);
     CHECK(mapdb_rights(&copy, far_space, 0x4b, room, 3, &count), MAPDB_BAD_SPACE);
+    mapdb_destroy(&copy);
+}
+
+static void comparing(void)
+{
+    mapdb_copy copy = created(0), other = created(1);
+    mapdb_issued issued;
+    mapdb_fpage next = fpage(0x20000, 14, MAPDB_READ);
+    mapdb_operation given[2];
+    mapdb_taken taken;
+    uint64_t count = 0;
+    bool answer = false;
+
+    CHECK(map(&copy, root, page, one, &issued), MAPDB_DONE);
+    CHECK(map(&copy, root, next, one, &issued), MAPDB_DONE);
     CHECK(mapdb_covers(&copy, &other, &answer), MAPDB_DONE);
     CHECK(answer, 1);
     CHECK(mapdb_covers(&other, &copy, &answer), MAPDB_DONE);
@@ -168,6 +180,7 @@ static void names(void)
 int main(void)
 {
     asking();
+    comparing();
     asking_without_memory();
     tables();
     snapshots();

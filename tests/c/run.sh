@@ -1,15 +1,21 @@
 #!/bin/sh
 # Builds the archive, compiles the header, the examples and the tests with all warnings as errors,
-# and runs them: as C99, C17 and C++17, under the address and undefined-behaviour sanitizers, under
-# valgrind where it is there, from installations where make is there, and by scripts against l4map.
-# It needs gcc, g++ and nm. The last line is 'N passed, M failed'.
+# and runs them: as C99, C17 and C++17 (the header also as C++98), under the address and
+# undefined-behaviour sanitizers, under valgrind where it is there, from installations where make is
+# there, and by scripts against l4map. It needs gcc, g++ and nm; what is left out since something
+# else is not there is told as skipped. The last line is 'N passed, M failed'.
 # Use: tests/c/run.sh, anywhere; with an archive that is built: ARCHIVE=FILE tests/c/run.sh; with
 # more random scripts: RANDOM_SCRIPTS=10000 tests/c/run.sh
 set -u
 top=$(CDPATH= cd -- "$(dirname -- "$0")/../.." && pwd)
+# The caller's names are of the caller's folder.
+[ -z "${ARCHIVE:-}" ] || ARCHIVE=$(realpath -m -- "$ARCHIVE")
+tool=$(realpath -m -- "${L4MAP:-$top/crates/l4map/out/l4map}")
 cd "$top" || exit 2
 build=$(mktemp -d)
 trap 'rm -rf "$build"' EXIT
+trap 'exit 130' INT
+trap 'exit 143' TERM
 passed=0
 failed=0
 
@@ -32,13 +38,31 @@ done_with() {
     exit
 }
 
+skipped() {
+    echo "skipped: $1, since $2 is not there"
+}
+
+has() {
+    command -v "$1" >/dev/null 2>&1
+}
+
+# The crate for Rust is of the edition of 2024, which older ones do not know.
+has_cargo() {
+    cargo --version 2>/dev/null |
+        awk '{ split($2, part, "."); exit !(part[1] > 1 || part[2] >= 85) }'
+}
+
 if [ -z "${ARCHIVE:-}" ]; then
     ARCHIVE=$top/crates/mapdb_c/out/libmapdb_c.a
-    try "the archive" ./prove mapdb_c
-    [ "$failed" -eq 0 ] || done_with
+    # It tells by itself how far it is.
+    if ! ./prove mapdb_c; then
+        failed=1
+        done_with
+    fi
 fi
-# For a relative name of the caller's.
-case $ARCHIVE in /*) ;; *) ARCHIVE=$top/$ARCHIVE ;; esac
+# It gets a name and a place that make, cargo and a linker look for.
+cp -- "$ARCHIVE" "$build/libmapdb_c.a" || exit 2
+ARCHIVE=$build/libmapdb_c.a
 
 # What the archive wants of its surroundings is what the header says, and no more.
 wanted() {
@@ -61,9 +85,9 @@ try "the header's calls are those of the archive" declared
 warnings="-Wall -Wextra -Wpedantic -Wshadow -Werror"
 c_files="c/mapdb_heap.c examples/c/smallest.c examples/c/two_processors.c tests/c/calls.c
     tests/c/queries.c tests/c/counting_heap.c tests/c/memory.c tests/c/orders.c tests/c/script.c
-    bench/c/calls.c"
+    tests/c/stack.c bench/c/calls.c"
 for compiler in gcc clang; do
-    command -v $compiler >/dev/null 2>&1 || continue
+    has $compiler || { skipped "warnings of $compiler" $compiler; continue; }
     for file in $c_files; do
         for standard in c99 c17; do
             try "$compiler $standard $file" $compiler -std=$standard $warnings -Wstrict-prototypes \
@@ -75,6 +99,8 @@ for compiler in gcc clang; do
     echo '#include "mapdb.h"' >"$build/header.c"
     try "$compiler freestanding header" $compiler -std=c99 -ffreestanding $warnings -Iinclude \
         -fsyntax-only "$build/header.c"
+    try "$compiler header in C++98" $compiler -x c++ -std=c++98 $warnings -Iinclude \
+        -fsyntax-only "$build/header.c"
 done
 
 # The same programs in C and in C++, plain and under the sanitizers.
@@ -82,6 +108,10 @@ compiled() {
     out=$1
     shift
     try "builds $out" "$@" -Iinclude -pthread -o "$build/$out" "$ARCHIVE"
+}
+# What README shows of the smallest example.
+smallest_says() {
+    [ "$("$1")" = "frame 0x10, rights 6" ]
 }
 sanitized="-g -O1 -fsanitize=address,undefined -fno-sanitize-recover=all"
 for way in plain sanitized; do
@@ -96,13 +126,15 @@ for way in plain sanitized; do
         compiled memory_$way gcc $flags tests/c/memory.c tests/c/counting_heap.c
         compiled orders_$way gcc $flags tests/c/orders.c c/mapdb_heap.c
         compiled script_$way gcc $flags tests/c/script.c c/mapdb_heap.c
-        try "the heap, $way" gcc $flags -c -o "$build/heap_$way.o" tests/c/counting_heap.c
+        compiled heap_cpp_$way g++ -x c++ $flags examples/c/smallest.c c/mapdb_heap.c -x none
+        try "the heap, $way" gcc $flags -Iinclude -c -o "$build/heap_$way.o" tests/c/counting_heap.c
         for part in calls queries; do
             compiled "${part}_cpp_$way" g++ -std=c++17 $flags -x c++ "tests/c/$part.c" \
                 -x none "$build/heap_$way.o"
         done
     }
-    try "smallest, $way" "$build/smallest_$way"
+    try "smallest, $way" smallest_says "$build/smallest_$way"
+    try "the heap in C++, $way" smallest_says "$build/heap_cpp_$way"
     for turn in 1 2 3 4 5; do
         try "two processors, $way, turn $turn" "$build/two_processors_$way"
     done
@@ -113,6 +145,10 @@ for way in plain sanitized; do
     try "calls in C++, $way" "$build/calls_cpp_$way"
     try "queries in C++, $way" "$build/queries_cpp_$way"
 done
+
+# How much of a stack calls touch, where nothing but the library's code is between.
+compiled stack gcc -O2 tests/c/stack.c c/mapdb_heap.c
+try "calls keep within the stack that is said" "$build/stack"
 
 # What calls cost is measured: that it ends well is asked, and no cost is.
 compiled costs gcc -O2 bench/c/calls.c c/mapdb_heap.c
@@ -140,11 +176,28 @@ installed() {
             -o "$build/installed_$folder" && "$build/installed_$folder" || return 1
     done
 }
-if command -v make >/dev/null 2>&1; then
+# What pkg-config says of an installation is what a compiler needs.
+found_by_package() {
+    words=$(PKG_CONFIG_PATH=$build/second/lib/pkgconfig pkg-config --cflags --libs mapdb-heap) &&
+        # They are words.
+        # shellcheck disable=SC2086
+        gcc -O2 examples/c/smallest.c $words -o "$build/packaged" &&
+        smallest_says "$build/packaged"
+}
+if has make; then
     try "installations" installed
+    if has pkg-config; then
+        try "an installation that pkg-config finds" found_by_package
+    else
+        skipped "what pkg-config says of an installation" pkg-config
+    fi
+else
+    skipped "installations" make
 fi
 
-if command -v valgrind >/dev/null 2>&1; then
+if ! has valgrind; then
+    skipped "all runs under it" valgrind
+else
     for program in smallest_plain two_processors_plain calls_plain queries_plain memory_plain \
         orders_plain; do
         try "$program under valgrind" valgrind -q --leak-check=full \
@@ -162,7 +215,7 @@ for script in examples/*.l4; do
     grep -q '^tree' "$script" && continue
     try "$script" replies "$script" "${script%.l4}.out"
 done
-tool=${L4MAP:-$top/crates/l4map/out/l4map}
+[ -x "$tool" ] || skipped "comparisons with l4map" "$tool"
 for script in tests/c/scripts/*.l4; do
     try "$script" replies "$script" "${script%.l4}.out"
     if [ -x "$tool" ]; then
@@ -171,12 +224,14 @@ for script in tests/c/scripts/*.l4; do
     fi
 done
 
-if [ -x "$tool" ] && command -v python3 >/dev/null 2>&1; then
+if [ -x "$tool" ] && has python3; then
     try "random scripts as l4map runs them" python3 tests/c/compare.py \
         --driver "$build/script_plain" --program "$tool" --count "${RANDOM_SCRIPTS:-1000}"
 fi
 
-if command -v cargo >/dev/null 2>&1; then
+if ! has_cargo; then
+    skipped "the crate for Rust" "a cargo of 1.85 or later"
+else
     rust() (
         cd bindings/rust &&
             MAPDB_ARCHIVE=$(dirname "$ARCHIVE") CARGO_TARGET_DIR=$build/rust \

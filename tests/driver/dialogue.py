@@ -1,8 +1,9 @@
 """One who waits for each answer before the next line gets it, with nothing else to push it out."""
 
+import contextlib
 import select
 import subprocess
-from typing import Iterator
+from typing import Iterator, Optional
 
 from driver.program import Program
 from driver.scripts import Script, examples
@@ -34,18 +35,32 @@ def comes(running: subprocess.Popen, wanted: bytes, seconds: float) -> bytes:
 
 def dialogue(program: Program, script: Script, seconds: float = SECONDS) -> Iterator[Met]:
     """Writes the lines of a script one by one into a pipe, and reads the answer to each before the
-    next, up to the first that does not come within these seconds."""
+    next, up to the first that does not come within these seconds; then asks how it ends."""
     command = [program.path] + script.arguments
     with subprocess.Popen(command, stdin=subprocess.PIPE, stdout=subprocess.PIPE) as running:
         for number, (line, wanted) in enumerate(answers(script.source), 1):
-            running.stdin.write(line)
-            running.stdin.flush()
+            # One that has ended takes no line: then no answer comes.
+            with contextlib.suppress(BrokenPipeError):
+                running.stdin.write(line)
+                running.stdin.flush()
             found = comes(running, wanted, seconds)
             name = "%s, the answer to line %d" % (script.name, number)
             yield Met(found == wanted, name, repr(found))
             if found != wanted:
                 break
+        status = ended(running, seconds)
+        yield Met(status == script.status, "%s, its status" % script.name, str(status))
+
+
+def ended(running: subprocess.Popen, seconds: float) -> Optional[int]:
+    """The status at the end of the input; none of one that does not end within these seconds."""
+    with contextlib.suppress(BrokenPipeError):
         running.stdin.close()
+    try:
+        return running.wait(seconds)
+    except subprocess.TimeoutExpired:
+        running.kill()
+        return None
 
 
 def run_dialogues(program: Program) -> Tally:

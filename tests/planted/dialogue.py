@@ -11,6 +11,10 @@ PROGRAMS = [
      'input=$(cat; echo .); printf %s "${input%.}" | "$program" "$@" 2>/dev/null'),
     ("another answer", "one_end, the answer to line 2: b'ended 2", SECONDS,
      '"$program" "$@" | sed -u "s/^ended 1/ended 2/"'),
+    ("a program that ends at once", "one_end, the answer to line 2: b''", SECONDS, "exit 0"),
+    ("a program that does not end", "one_end, its status: None", 1,
+     '"$program" "$@"; exec sleep 60'),
+    ("another status", "one_end, its status: 1", SECONDS, '"$program" "$@"; exit 1'),
 ]
 
 

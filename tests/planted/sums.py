@@ -1,5 +1,7 @@
 """Faults that the sums have to report: the last line and the status of the driver and of `all`."""
 
+import contextlib
+import io
 import os
 import shutil
 import subprocess
@@ -27,26 +29,30 @@ class Part(NamedTuple):
     status: int
 
 
-# The parts of `all` behind the first two.
-LATER = [os.path.join("tests", "examples.sh"), os.path.join("tests", "c", "run.sh")]
-
+# The parts of `all`, in order, and what they tell where all is well.
+PARTS = ["rt", os.path.join("tests", "run.py"), os.path.join("tests", "examples.sh"),
+         os.path.join("tests", "c", "run.sh")]
 WELL, ALSO_WELL = Part("3 passed, 0 failed", 0), Part("20 passed, 0 failed", 0)
+EXAMPLES, LIBRARY = Part("5 passed, 0 failed", 0), Part("7 passed, 0 failed", 0)
 
-# Name, the last line, and what both parts tell.
+# Name, the last line, and what the parts tell; those that are not named are well.
 SUMS = [
-    ("a first part that fails", "2 passed, 1 failed", Part("2 passed, 1 failed", 1), ALSO_WELL),
-    ("a first part that fails without a failure", "3 passed, 1 failed", Part(WELL.told, 1),
-     ALSO_WELL),
-    ("a first part without a sum", "0 passed, 1 failed", Part("well", 0), ALSO_WELL),
-    ("a first part without a word", "0 passed, 1 failed", Part("", 1), ALSO_WELL),
-    ("a second part that fails", "22 passed, 1 failed", WELL, Part("19 passed, 1 failed", 1)),
-    ("a second part without a sum", "3 passed, 1 failed", WELL, Part("well", 0)),
+    ("a first part that fails", "2 passed, 1 failed", Part("2 passed, 1 failed", 1)),
+    ("a first part that fails without a failure", "3 passed, 1 failed", Part(WELL.told, 1)),
+    ("a first part without a sum", "0 passed, 1 failed", Part("well", 0)),
+    ("a first part without a word", "0 passed, 1 failed", Part("", 1)),
+    ("a second part that fails", "34 passed, 1 failed", WELL, Part("19 passed, 1 failed", 1)),
+    ("a second part without a sum", "15 passed, 1 failed", WELL, Part("well", 0)),
+    ("a third part that fails", "34 passed, 1 failed", WELL, ALSO_WELL,
+     Part("4 passed, 1 failed", 1)),
+    ("a fourth part that fails", "34 passed, 1 failed", WELL, ALSO_WELL, EXAMPLES,
+     Part("6 passed, 1 failed", 1)),
 ]
 
 
 def sums_faults() -> list[Fault]:
     return [
-        Fault("sums", "as it is", None, lambda scene: run_all_of(scene, "well", WELL, ALSO_WELL)),
+        Fault("sums", "as it is", None, all_well),
         Fault("sums", "a program that is not there", "is not there: .*\n0 passed, 1 failed",
               absent),
         Fault("sums", "rows of a program that is silent", FAILED,
@@ -55,9 +61,9 @@ def sums_faults() -> list[Fault]:
               lambda scene: driver_on(silent(scene, "refusals"), "refusals")),
         Fault("sums", "streams of a program that is silent", FAILED,
               lambda scene: driver_on(silent(scene, "streams"), "streams")),
-        Fault("sums", "an archive that is not built", "^23 passed, 1 failed$",
-              lambda scene: run_all_of(scene, "no-archive", WELL, ALSO_WELL, Part("", 1))),
-    ] + [by_parts(*row) for row in SUMS]
+        Fault("sums", "an archive that is not built", "^28 passed, 1 failed$",
+              lambda scene: run_all_of(scene, "no-archive", [], Part("", 1))),
+    ] + [by_parts(name, last, told) for name, last, *told in SUMS]
 
 
 def silent(scene: Scene, kind: str) -> Program:
@@ -79,24 +85,33 @@ def driver_on(program: Program, kind: str) -> Tally:
     return tally_of(command + ["--program", program.path])
 
 
-def by_parts(name: str, last: str, first: Part, second: Part) -> Fault:
-    """Two parts of `all`, of which one tells a failure, or nothing."""
-    return Fault("sums", name, "^%s$" % last, lambda scene: run_all_of(scene, name, first, second))
+def all_well(scene: Scene) -> Tally:
+    """All parts are well, and the sum is theirs."""
+    report = io.StringIO()
+    with contextlib.redirect_stdout(report):
+        tally = run_all_of(scene, "well", [])
+    if report.getvalue().rstrip().split("\n")[-1] != "35 passed, 0 failed":
+        tally.failed += 1
+    return tally
+
+
+def by_parts(name: str, last: str, told: list[Part]) -> Fault:
+    """Parts of `all`, of which one may tell a failure, or nothing."""
+    return Fault("sums", name, "^%s$" % last, lambda scene: run_all_of(scene, name, told))
 
 
 def run_all_of(
-    scene: Scene, name: str, first: Part, second: Part, archive: Part = Part("", 0)
+    scene: Scene, name: str, told: list[Part], archive: Part = Part("", 0)
 ) -> Tally:
-    """Runs `all` in a folder where its first two parts and the builder of the archive are others,
-    and the rest has nothing to tell."""
+    """Runs `all` in a folder where its parts and the builder of the archive are others. The first
+    parts tell what is said here, and the rest is well."""
     top = os.path.join(scene.folder, "all-" + name.replace(" ", "-"))
     os.makedirs(os.path.join(top, "tests", "c"))
     shutil.copy(os.path.join(TESTS, "all"), os.path.join(top, "tests"))
-    write_part(os.path.join(top, "rt"), first)
     write_part(os.path.join(top, "tests", "archive.sh"), archive)
-    write_part(os.path.join(top, "tests", "run.py"), second)
-    for path in LATER:
-        write_part(os.path.join(top, path), Part("0 passed, 0 failed", 0))
+    well = [WELL, ALSO_WELL, EXAMPLES, LIBRARY]
+    for path, part in zip(PARTS, told + well[len(told):]):
+        write_part(os.path.join(top, path), part)
     return tally_of([os.path.join(top, "tests", "all")], PATH=top + ":" + os.environ["PATH"])
 
 

@@ -5,7 +5,9 @@
 //! memory back when it is dropped. No call waits, takes a lock or starts a thread, and none panics.
 //!
 //! The program supplies the heap's three functions, `memcpy`, `memmove` and `memset`, as
-//! `include/mapdb.h` says; `docs/KERNELS.md` has what a kernel does beside that.
+//! `include/mapdb.h` says. They are called on any thread that has a copy, also on several at once,
+//! and take back on one what they gave on another. `docs/KERNELS.md` has what a kernel does beside
+//! that.
 //!
 //! # A use
 //!
@@ -29,7 +31,9 @@ mod errors;
 mod raw;
 mod status;
 
-pub use raw::{END, EXECUTE, Found, Fpage, Operation, READ, RECORD, REVOCATION, Row, Space, WRITE};
+pub use raw::{ALL_RIGHTS, EXECUTE, READ, WRITE};
+pub use raw::{END, Found, Fpage, Operation, RECORD, REVOCATION, Row, Space};
+pub use raw::{OPERATIONS, PAGE_ORDER, PROCESSORS, SPACES, TOP_ORDER};
 pub use status::Status;
 
 use raw::{Handle, Issued, Taken};
@@ -84,7 +88,7 @@ pub struct Replica {
 }
 
 // SAFETY: a copy keeps plain data in its own blocks of the heap, and each call has it whole by
-// `&mut`.
+// `&mut`. The heap's functions take calls from any thread: whoever supplies them owes that (above).
 unsafe impl Send for Replica {}
 
 impl Replica {

@@ -1,6 +1,7 @@
 //! The library's calls as `include/mapdb.h` has them, and what they are given.
 
 use core::ffi::c_void;
+use core::mem::{offset_of, size_of};
 
 /// The right to execute. Rights are a set, added up of these three.
 pub const EXECUTE: u32 = 1;
@@ -8,6 +9,20 @@ pub const EXECUTE: u32 = 1;
 pub const WRITE: u32 = 2;
 /// The right to read.
 pub const READ: u32 = 4;
+
+/// All three rights.
+pub const ALL_RIGHTS: u32 = 7;
+
+/// Processors are numbered below this.
+pub const PROCESSORS: u32 = 64;
+/// Numbers of spaces lie below this.
+pub const SPACES: u32 = 65_536;
+/// A copy holds at most so many operations.
+pub const OPERATIONS: usize = 65_536;
+/// The order of a page, the least.
+pub const PAGE_ORDER: u32 = 12;
+/// The order of the complete address space, the greatest.
+pub const TOP_ORDER: u32 = 48;
 
 /// The kind of an operation that is a record.
 pub const RECORD: u32 = 1;
@@ -142,6 +157,32 @@ pub struct Taken {
     /// Nothing.
     pub reserved: u32,
 }
+
+// Where C has the fields, as `include/mapdb.h` asks too.
+const _: () = {
+    assert!(size_of::<Handle>() == size_of::<*mut c_void>());
+    assert!(size_of::<Space>() == 8 && offset_of!(Space, version) == 4);
+    assert!(size_of::<Fpage>() == 16);
+    assert!(offset_of!(Fpage, order) == 8 && offset_of!(Fpage, rights) == 12);
+    assert!(size_of::<Operation>() == 64);
+    assert!(offset_of!(Operation, rights) == 4 && offset_of!(Operation, number) == 8);
+    assert!(offset_of!(Operation, parent_number) == 16 && offset_of!(Operation, address) == 24);
+    assert!(offset_of!(Operation, source) == 32 && offset_of!(Operation, space) == 40);
+    assert!(offset_of!(Operation, processor) == 48);
+    assert!(offset_of!(Operation, parent_processor) == 52);
+    assert!(offset_of!(Operation, order) == 56 && offset_of!(Operation, reserved) == 60);
+    assert!(size_of::<Issued>() == 24);
+    assert!(offset_of!(Issued, count) == 8 && offset_of!(Issued, space) == 16);
+    assert!(size_of::<Taken>() == 32);
+    assert!(offset_of!(Taken, place) == 8 && offset_of!(Taken, number) == 16);
+    assert!(offset_of!(Taken, processor) == 24 && offset_of!(Taken, reserved) == 28);
+    assert!(size_of::<Found>() == 16);
+    assert!(offset_of!(Found, rights) == 8 && offset_of!(Found, reserved) == 12);
+    assert!(size_of::<Row>() == 40);
+    assert!(offset_of!(Row, page) == 8 && offset_of!(Row, count) == 16);
+    assert!(offset_of!(Row, frame) == 24 && offset_of!(Row, rights) == 32);
+    assert!(offset_of!(Row, reserved) == 36);
+};
 
 // Each call as `include/mapdb.h` tells it, with the statuses that it answers.
 unsafe extern "C" {

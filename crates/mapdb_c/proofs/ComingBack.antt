@@ -11,7 +11,8 @@ use Rattle.mapdb_facts.specs.declared.operations.Op.TheVariants.{Born, Closed, C
 use Rattle.mapdb_facts.specs.declared.operations.Record.{Record}
 use Rattle.mapdb_facts.specs.declared.operations.Revocation.{Revocation}
 use Rattle.mapdb_c.specs.RawOperations.{name_given, record_given, revocation_of, end_given, written_end, written_record, written_revocation}
-use Rattle.mapdb_c.specs.RawPlaces.{◌>>=◌, or_status, place_given, raw_space, rights_of, space_given}
+use Rattle.mapdb_c.specs.FaultStatuses.{place_status}
+use Rattle.mapdb_c.specs.RawPlaces.{◌>>=◌, place_given, raw_space, rights_of, space_given, with_status}
 use Rattle.mapdb_c.specs.declared.statuses.Status.{Status}
 
 rights_of_own :
@@ -31,7 +32,7 @@ rights_back : (rights : Rights) → rights_of (bits_of rights) ≡ Ok rights
 rights_back rights = rights_of_own rights.read rights.write rights.execute
 
 place_back : (place : Place) → IsPlace place → place_given (place.first_page * 4096) place.order ≡ Ok place
-place_back place is = ap or_status (place_at_own place is)
+place_back place is = ap (with_status place_status) (place_at_own place is)
 
 space_back : (space : Space) → space.number < 65536 → space_given (raw_space space) ≡ Ok space
 space_back space low = rw (lt-ltb space.number 65536 low) refl

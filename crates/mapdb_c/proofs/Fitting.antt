@@ -39,22 +39,6 @@ does_not_fit X Y f xs old short =
     inr (refl, sym e, rw e short, refl)
 
 -- The same of a list that is written as it is.
-pub copied_more :
-    (X : Type 0) (xs old : List X) (i : ℕ) (d : X) → i < length xs → length xs ≤ length old
-    → set (take i xs ++ drop i old) i (get_or xs i d) ≡ take (suc i) xs ++ drop (suc i) old
-copied_more X [] old i d low fits = absurd (omega arith)
-copied_more X (x ∷ xs) [] i d low fits = absurd (omega arith)
-copied_more X (x ∷ xs) (y ∷ old) zero d low fits = refl
-copied_more X (x ∷ xs) (y ∷ old) (suc i) d low fits =
-    ap (λ (ys : List X). x ∷ ys) (copied_more X xs old i d (omega arith) (omega arith))
-
-pub copied_next :
-    (X : Type 0) (xs room old : List X) (i : ℕ) (v d : X)
-    → i < length xs → length xs ≤ length old → room ≡ take i xs ++ drop i old → v ≡ get_or xs i d
-    → set room i v ≡ take (i + 1) xs ++ drop (i + 1) old
-copied_next X xs room old i v d low fits is value =
-    rw is (rw value (let e : i + 1 ≡ suc i = omega arith in rw e (copied_more X xs old i d low fits)))
-
 pub text_fits :
     (X : Type 0) (xs old new : List X) → length xs ≤ length old → new ≡ xs ++ drop (length xs) old
     → FitsArray xs status.Done old new (length xs)

@@ -16,17 +16,12 @@ pub read_taken :
     → snapshot_of text ≡ Ok batch → TakesAs batch told taken old new
     → LoadsAs text told taken old new
 read_taken text batch told taken old new is takes =
-    subst (λ (read : Result (List Op) SnapshotFault). LoadsRead read told taken old new) (sym is) (inl takes)
-
-wanted : (read : Result (List Op) SnapshotFault) (why : SnapshotFault) (old : Log)
-    → why ≡ Memory → LoadsRead read (text_status why) (taken_with 0) old old
-wanted (Ok batch) why old is = inr (ap text_status is, refl, refl)
-wanted (Err other) why old is = inr (ap text_status is, refl, refl)
+    inl (subst (λ (read : Result (List Op) SnapshotFault). LoadsRead read told taken old new) (sym is) takes)
 
 pub not_read :
     (text : List ℕ) (why : SnapshotFault) (old : Log)
     → (why ≡ Memory) ⊎ (snapshot_of text ≡ Err why) → LoadsAs text (text_status why) (taken_with 0) old old
-not_read text why old (inl is) = wanted (snapshot_of text) why old is
-not_read text why old (inr is) =
-    subst (λ (read : Result (List Op) SnapshotFault). LoadsRead read (text_status why) (taken_with 0) old old) (sym is)
-    (inl (refl, refl, refl))
+not_read text why old (inl is) = inr (ap text_status is, refl, refl)
+not_read text why old (inr is) = inl
+    (subst (λ (read : Result (List Op) SnapshotFault). LoadsRead read (text_status why) (taken_with 0) old old) (sym is)
+    (refl, refl, refl))

@@ -25,14 +25,12 @@ abbrev pub IsNotRead : SnapshotFault → Status → Taken → Log → Log → Ty
 IsNotRead why told taken old new = (told ≡ text_status why) × (taken ≡ taken_with 0)
     × (new ≡ old)
 
--- What taking a text leaves and tells: what it says is taken as a batch. To read it, memory may
--- run out in place of all else.
+-- what taking a text that was read leaves and tells: what it says is taken as a batch
 abbrev pub LoadsRead : Result (List Op) SnapshotFault → Status → Taken → Log → Log → Type 0
 LoadsRead (Err why) told taken old new = IsNotRead why told taken old new
-    ⊎ IsNotRead Memory told taken old new
-LoadsRead (Ok batch) told taken old new =
-    TakesAs batch told taken old new
-    ⊎ IsNotRead Memory told taken old new
+LoadsRead (Ok batch) told taken old new = TakesAs batch told taken old new
 
+-- What taking a text leaves and tells. To read it, memory may run out in place of all else.
 abbrev pub LoadsAs : List ℕ → Status → Taken → Log → Log → Type 0
 LoadsAs text told taken old new = LoadsRead (snapshot_of text) told taken old new
+    ⊎ IsNotRead Memory told taken old new

@@ -5,35 +5,25 @@ use Rattle.mapdb_fpage.specs.Words.{item_of_words, page_of_word}
 use Rattle.mapdb_fpage.specs.Words as words
 use Rattle.mapdb_fpage.specs.declared.items.MapItem.{MapItem}
 use Rattle.mapdb_fpage.specs.declared.right_sets.Rights.{Rights}
-use Rattle.mapdb_fpage.specs.declared.words.ItemFault.{ItemFault}
-use Rattle.mapdb_fpage.specs.declared.words.WordFault.{WordFault}
 use Rattle.mapdb_replica.specs.declared.commands.Command.{Command}
 use Rattle.mapdb_replica.specs.declared.commands.Command.TheVariants.{End, Map, Unmap}
 use Rattle.mapdb_c.specs.FaultStatuses.{item_status, word_status}
-use Rattle.mapdb_c.specs.RawPlaces.{◌>>=◌, fpage_of, space_given, window_of}
+use Rattle.mapdb_c.specs.RawPlaces.{◌>>=◌, fpage_of, space_given, window_of, with_status}
 use Rattle.mapdb_c.specs.declared.raw_places.RawFpage.{RawFpage}
 use Rattle.mapdb_c.specs.declared.raw_places.RawSpace.{RawSpace}
 use Rattle.mapdb_c.specs.declared.statuses.Status.{Status}
 
-abbrev pub or_item_status : Result MapItem ItemFault → Result MapItem Status
-or_item_status (Ok item) = Ok item
-or_item_status (Err fault) = Err (item_status fault)
-
-abbrev pub or_word_status : {A : Type 0} → Result A WordFault → Result A Status
-or_word_status (Ok value) = Ok value
-or_word_status (Err fault) = Err (word_status fault)
-
 -- the map item of the kernel's two words
 abbrev pub item_of : ℕ → ℕ → Result MapItem Status
-item_of first second = or_item_status (item_of_words first second)
+item_of first second = with_status item_status (item_of_words first second)
 
 -- the receive window of a word
 abbrev pub window_given : ℕ → Result (Option Place) Status
-window_given word = or_word_status (words.window_of_word word)
+window_given word = with_status word_status (words.window_of_word word)
 
 -- the fpage and the rights of a word
 abbrev pub word_page : ℕ → Result (Option Place × Rights) Status
-word_page word = or_word_status (page_of_word word)
+word_page word = with_status word_status (page_of_word word)
 
 -- the Map of an item by value
 abbrev pub map_command : RawSpace → ℕ → RawFpage → RawSpace → RawFpage → Result Command Status

@@ -1,10 +1,10 @@
 -- What C's spaces and fpages say, or the status of what is wrong with them.
 use Rattle.std.specs.Prelude.{ℕ, ◌==◌, nat_le, nat_lt, Option, Some, None, Result, Ok, Err}
 use Rattle.std.specs.Prelude.{if◌then◌else◌}
+use Rattle.std.specs.Option.{ok_or}
 use Rattle.mapdb_fpage.specs.Addresses.{place_at}
 use Rattle.mapdb_fpage.specs.Place.{Place}
 use Rattle.mapdb_fpage.specs.RightSets.{rights_of_bits}
-use Rattle.mapdb_fpage.specs.declared.places.FpageFault.{FpageFault}
 use Rattle.mapdb_fpage.specs.declared.right_sets.Rights.{Rights}
 use Rattle.mapdb_facts.specs.declared.names.Space.{Space}
 use Rattle.mapdb_c.specs.FaultStatuses.{place_status}
@@ -29,21 +29,18 @@ space_given raw =
 abbrev pub raw_space : Space → RawSpace
 raw_space space = record { number = space.number; version = space.version }
 
-abbrev pub or_bad_rights : Option Rights → Result Rights Status
-or_bad_rights (Some rights) = Ok rights
-or_bad_rights None = Err status.BadRights
+-- the value, or the status of what is wrong with it
+abbrev pub with_status : {A F : Type 0} → (F → Status) → Result A F → Result A Status
+with_status status_of (Ok value) = Ok value
+with_status status_of (Err fault) = Err (status_of fault)
 
 -- the rights of a value below 8
 abbrev pub rights_of : ℕ → Result Rights Status
-rights_of value = or_bad_rights (rights_of_bits value)
-
-abbrev pub or_status : Result Place FpageFault → Result Place Status
-or_status (Ok place) = Ok place
-or_status (Err fault) = Err (place_status fault)
+rights_of value = ok_or (rights_of_bits value) status.BadRights
 
 -- the place of 2 ^ order bytes from the address on
 abbrev pub place_given : ℕ → ℕ → Result Place Status
-place_given address order = or_status (place_at address order)
+place_given address order = with_status place_status (place_at address order)
 
 -- the place, or nil, whose order is 0
 abbrev pub optional_place : ℕ → ℕ → Result (Option Place) Status

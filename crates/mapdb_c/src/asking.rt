@@ -23,7 +23,7 @@ use mapdb_fpage::{PAGE_LIMIT, Rights};
 use mapdb_replica::Replica;
 use std::alloc::Global;
 
-/// A frame that a page is served from, with rights, 16 bytes.
+/// A frame, with rights to it, 16 bytes.
 #[repr(C)]
 #[derive(Clone, Copy)]
 pub struct Found {

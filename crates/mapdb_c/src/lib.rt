@@ -1,7 +1,8 @@
 //! The copy of the mapping database for kernels in C.
 //!
 //! A [`handles::Handle`] has a copy or none. Each call takes the copy out of its handle, asks it,
-//! and puts it back.
+//! and puts it back. Which statuses a call answers, and in which order they are looked for,
+//! include/mapdb.h says.
 //!
 //! # A use
 //!

@@ -36,9 +36,7 @@ fn write_text(text: &[u8], room: &mut [u8])
     requires { length text.now ≤ length room.old }
     ensures { room.new ≡ text.now ++ drop (length text.now) room.old }
 {
-    for (place, byte) in text.iter().enumerate() {
-        room[place] = *byte;
-    }
+    room[..text.len()].copy_from_slice(text);
 }
 
 /// Writes a text into the caller's array where it has room for it, and tells how long it is.

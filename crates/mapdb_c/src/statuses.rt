@@ -8,7 +8,7 @@ ghost use Rattle.mapdb_c.specs.StatusNumbers.{status_number, status_at};
 pub enum Status {
     /// The call did what it says.
     Done,
-    /// The handle has no copy.
+    /// The handle has no copy, or one of two has none.
     NoCopy,
     /// Memory ran out. What stands is told where something does.
     Memory,
@@ -45,7 +45,7 @@ pub enum Status {
     Unaligned,
     /// The operation is of no kind.
     BadKind,
-    /// A number of no record.
+    /// A number of no record: `2^40` or more, or 0 but for the root's.
     BadNumber,
     /// A record's number is not greater than its parent's.
     ParentNotBefore,

@@ -27,9 +27,9 @@ pub struct Taken {
     /// Of a bad operation its place in the batch, counted from 0; where memory ran out, of how
     /// many first operations of the batch what is new stands, which are not all.
     pub place: u64,
-    /// Of a clash the number of the name.
+    /// Of a clash the number of the name, 0 otherwise.
     pub number: u64,
-    /// Of a clash the processor of the name.
+    /// Of a clash the processor of the name, 0 otherwise.
     pub processor: u32,
     /// Nothing.
     pub reserved: u32,

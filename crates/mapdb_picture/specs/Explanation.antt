@@ -16,7 +16,7 @@ use Rattle.mapdb_facts.specs.declared.operations.Op.{Op}
 use Rattle.mapdb_facts.specs.declared.operations.Record.{Record}
 use Rattle.mapdb_rights.specs.Right.{source_page}
 use Rattle.mapdb_picture.specs.Chain.{Spot, chain}
-use Rattle.mapdb_picture.specs.Labels.{label_at, place_text, source_text}
+use Rattle.mapdb_picture.specs.Labels.{held_text, place_text, source_text}
 use Rattle.mapdb_lines.specs.Shown.{frame_text, name_text, space_text}
 
 -- a space, and whether it has ended
@@ -74,7 +74,7 @@ chain_text S spot = flat_map (step_line S) (chain S spot)
 abbrev pub block : State → RecordId → ℕ → List ℕ
 block S id page =
     codes "record " ++ (name_text id ++ (codes "\n"
-    ++ (chain_text S (id, page) ++ (label_at S id page ++ codes "\n"))))
+    ++ (chain_text S (id, page) ++ (held_text S id page ++ codes "\n"))))
 
 -- of a record of the space that holds the page, its block
 abbrev pub block_of : State → Space → ℕ → Record → List ℕ

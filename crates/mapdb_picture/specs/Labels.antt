@@ -34,12 +34,9 @@ reached_text None = codes "none"
 reached_text (Some frame) = frame_text frame
 
 -- the rights that a record has at a page, and the frame that it reaches there
-abbrev pub held_text : Rights → Option ℕ → List ℕ
-held_text rights frame =
-    codes "rights " ++ (text_of rights ++ (codes " frame " ++ reached_text frame))
-
-abbrev pub label_at : State → RecordId → ℕ → List ℕ
-label_at S id page = held_text (rights_at S id page) (frame_at S id page)
+abbrev pub held_text : State → RecordId → ℕ → List ℕ
+held_text S id page = codes "rights "
+    ++ (text_of (rights_at S id page) ++ (codes " frame " ++ reached_text (frame_at S id page)))
 
 -- the pages of a run, the first and the last, and the rights that are revoked there
 abbrev pub run_text : CutRun → List ℕ
@@ -58,9 +55,9 @@ revoked_line run = label_line (run_text run)
 abbrev pub revoked_lines : State → RecordId → List ℕ
 revoked_lines S id = flat_map revoked_line (cut_runs S id 0)
 
--- what a record has at its first page, and what is revoked of it
+-- what a record has at a page, and what is revoked of it
 abbrev pub held_lines : State → RecordId → ℕ → List ℕ
-held_lines S id page = label_line (label_at S id page) ++ revoked_lines S id
+held_lines S id page = label_line (held_text S id page) ++ revoked_lines S id
 
 -- the label of the root: it names all pages, and has what it has at the first of them
 abbrev pub root_label : State → List ℕ

@@ -3,7 +3,7 @@
 
 ghost use Rattle.std.specs.Prelude.{◌≡◌, ◌<◌, ◌≤◌, ◌+◌, IfOk, string_bytes};
 ghost use Rattle.mapdb_facts.specs.Facts.{state_of_facts};
-ghost use Rattle.mapdb_picture.specs.Labels.{absent_label, label_at, held_lines, named_text};
+ghost use Rattle.mapdb_picture.specs.Labels.{absent_label, held_lines, held_text, named_text};
 ghost use Rattle.mapdb_picture.specs.Labels.{place_text, reached_text, record_label, revoked_line};
 ghost use Rattle.mapdb_picture.specs.Labels.{revoked_lines, root_label, run_text, said_lines};
 ghost use Rattle.mapdb_picture.specs.Labels.{source_text};
@@ -59,7 +59,7 @@ pub fn held_text(
     page: u64,
 ) -> Result<String, AllocError>
     ensures { IfOk result (λ text. string_bytes text
-        ≡ label_at (state_of_facts facts.now) id page) }
+        ≡ held_text (state_of_facts facts.now) id page) }
 {
     let rights = letters(alloc, rights_of(facts, id, page))?;
     let frame = reached_text(alloc, frame_of(facts, id, page))?;

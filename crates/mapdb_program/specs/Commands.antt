@@ -55,16 +55,16 @@ l4map =
     (new_shape (codes "run"))) threads) (new_shape (codes "picture"))) explain
 
 -- a link holds one message at least
-abbrev pub if_some : ℕ → Option ℕ
-if_some capacity = if capacity == 0 then None else Some capacity
+abbrev pub at_least_one : ℕ → Option ℕ
+at_least_one capacity = if capacity == 0 then None else Some capacity
 
 -- the capacity that a text says: a decimal number, from 1 to the greatest
 abbrev pub capacity_said : Text → Option ℕ
-capacity_said text = option_and_then if_some (number_of 10 decimal_digits MOST_CAPACITY text)
+capacity_said text = option_and_then at_least_one (number_of 10 decimal_digits MOST_CAPACITY text)
 
 -- what the arguments of `threads` ask for
-abbrev pub capacity_given : List Row → Option Job
-capacity_given rows =
+abbrev pub threads_given : List Row → Option Job
+threads_given rows =
     option_map Threads (option_and_then capacity_said (first_of (codes "capacity") rows))
 
 -- the page of an address in a space, where both are words of a script
@@ -87,7 +87,7 @@ page_given rows =
 abbrev pub job_named : Text → List Row → Option Job
 job_named name rows =
     if bytes_eq name (codes "run") then Some Run
-    else (if bytes_eq name (codes "threads") then capacity_given rows
+    else (if bytes_eq name (codes "threads") then threads_given rows
     else (if bytes_eq name (codes "picture") then Some (Tell Picture)
     else (if bytes_eq name (codes "explain") then option_map Tell (page_given rows)
     else None)))
@@ -96,13 +96,13 @@ abbrev pub asked : Text × List Row → Option Job
 asked found = job_named found.0 found.1
 
 -- clap finds no fault
-abbrev pub is_taken : Kinds → Bool
-is_taken [] = true
-is_taken (kind ∷ kinds) = false
+abbrev pub has_no_fault : Kinds → Bool
+has_no_fault [] = true
+has_no_fault (kind ∷ kinds) = false
 
 -- what the words ask for: clap takes them, and they name a subcommand, whose arguments have values
 -- that it takes
 unfoldable pub job_in : List Text → Option Job
 job_in words =
-    if is_taken (fault_of l4map words) then option_and_then asked (subcommand_of l4map words)
+    if has_no_fault (fault_of l4map words) then option_and_then asked (subcommand_of l4map words)
     else None

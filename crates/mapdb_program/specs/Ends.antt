@@ -6,18 +6,19 @@ use Rattle.std.specs.declared.io.ErrorKind.TheVariants as io_kind
 use Rattle.mapdb_script.specs.Run.{HasEnded, TellsRun}
 use Rattle.mapdb_script.specs.declared.faults.ScriptFault.{ScriptFault}
 use Rattle.mapdb_script.specs.declared.faults.Summary.{Summary}
-use Rattle.mapdb_program.specs.Snapshots.{BlamesSnapshot, TellsSnapshot, snapshot_ending}
-use Rattle.mapdb_program.specs.Snapshots.{snapshot_message}
-use Rattle.mapdb_program.specs.Statuses.{BlamesFailed, IsTold, Refuses, TellsOutOfMemory, ending_of}
+use Rattle.mapdb_script.specs.declared.faults.ScriptFault.TheVariants as script
+use Rattle.mapdb_program.specs.Snapshots.{TellsSnapshot, snapshot_ending, snapshot_message}
+use Rattle.mapdb_program.specs.Statuses.{Blames, IsTold, Refuses, TellsOutOfMemory, ending_of}
 use Rattle.mapdb_program.specs.Statuses.{message_of, words_message}
-use Rattle.mapdb_program.specs.Threaded.{BlamesThreads, TellsThreads, threads_ending}
-use Rattle.mapdb_program.specs.Threaded.{threads_message}
+use Rattle.mapdb_program.specs.Threaded.{TellsThreads, read_failed, threads_ending}
+use Rattle.mapdb_program.specs.Threaded.{threads_message, write_failed}
 use Rattle.mapdb_program.specs.declared.commands.Job.{Job}
 use Rattle.mapdb_program.specs.declared.commands.Job.TheVariants.{Run, Tell, Threads}
 use Rattle.mapdb_program.specs.declared.endings.Ending.{Ending}
 use Rattle.mapdb_program.specs.declared.endings.Ending.TheVariants.{Refused}
 use Rattle.mapdb_program.specs.declared.snapshots.Asked.{Asked}
 use Rattle.mapdb_program.specs.declared.snapshots.TellFault.{TellFault}
+use Rattle.mapdb_program.specs.declared.snapshots.TellFault.TheVariants as tell
 use Rattle.mapdb_program.specs.declared.threaded.ThreadsFault.{ThreadsFault}
 
 -- a reader: what was left, what is left now, whether it has ended, and whether it has failed
@@ -50,7 +51,8 @@ EndsRun ending reader writer errors =
     (outcome : Result Summary ScriptFault) × (input text : List ℕ)
     × Consumes reader.old reader.new input × Appends writer.old writer.new text
     × TellsRun outcome input text (HasEnded reader.has_ended reader.new)
-    × BlamesFailed outcome reader.has_failed writer.has_failed × (ending ≡ ending_of outcome)
+    × Blames script.Read script.Write outcome reader.has_failed writer.has_failed
+    × (ending ≡ ending_of outcome)
     × IsTold errors.old errors.new errors.has_failed (message_of outcome)
 
 -- how a script in threads ends
@@ -59,7 +61,7 @@ EndsThreads capacity ending reader writer errors =
     (outcome : Result (Unit {0}) ThreadsFault) × (input text : List ℕ)
     × Consumes reader.old reader.new input × Appends writer.old writer.new text
     × TellsThreads capacity outcome input text (HasEnded reader.has_ended reader.new)
-    × BlamesThreads outcome reader.has_failed writer.has_failed
+    × Blames read_failed write_failed outcome reader.has_failed writer.has_failed
     × (ending ≡ threads_ending outcome)
     × IsTold errors.old errors.new errors.has_failed (threads_message outcome)
 
@@ -69,7 +71,7 @@ EndsTell asked ending reader writer errors =
     (outcome : Result (Unit {0}) TellFault) × (input text : List ℕ)
     × Consumes reader.old reader.new input × Appends writer.old writer.new text
     × TellsSnapshot asked outcome input text (HasEnded reader.has_ended reader.new)
-    × BlamesSnapshot outcome reader.has_failed writer.has_failed
+    × Blames tell.Read tell.Write outcome reader.has_failed writer.has_failed
     × (ending ≡ snapshot_ending outcome)
     × IsTold errors.old errors.new errors.has_failed (snapshot_message outcome)
 

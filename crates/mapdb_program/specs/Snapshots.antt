@@ -72,12 +72,6 @@ TellsSnapshot asked (Err (Load fault)) input text Over =
     (text ≡ []) × (((fault ≡ Memory) × IsLittle input)
     ⊎ (IsAll input Over × (answer_told asked input ≡ Err fault)))
 
--- The reader or the writer is blamed exactly where that one has failed.
-abbrev pub BlamesSnapshot : Result (Unit {0}) TellFault → Bool → Bool → Type 0
-BlamesSnapshot outcome reader_failed writer_failed =
-    ((outcome ≡ Err Read) ↔ (reader_failed ≡ true))
-    × ((outcome ≡ Err Write) ↔ (writer_failed ≡ true))
-
 -- how the program ends where a text is no snapshot that a copy can hold
 abbrev pub load_ending : LoadFault → Ending
 load_ending Memory = OutOfMemory

@@ -54,14 +54,16 @@ abbrev pub TellsOutOfMemory : Ending → Option (List ℕ) → Option (List ℕ)
 TellsOutOfMemory ending old new has_failed = (ending ≡ OutOfMemory)
     × IsTold old new has_failed memory_message
 
--- Words were refused, which a text of clap's tells, or there was no memory to refuse them.
+-- Words were refused, and some text was told, of which nothing is said; or there was no memory to
+-- refuse them.
 abbrev pub Refuses : Ending → Option (List ℕ) → Option (List ℕ) → Bool → Type 0
 Refuses ending old new has_failed =
     ((ending ≡ Refused) × ((text : List ℕ) × IsTold old new has_failed text))
     ⊎ TellsOutOfMemory ending old new has_failed
 
--- A run blames the reader or the writer exactly where that one has failed.
-abbrev pub BlamesFailed : Result Summary ScriptFault → Bool → Bool → Type 0
-BlamesFailed outcome reader_failed writer_failed =
-    ((outcome ≡ Err fault.Read) ↔ (reader_failed ≡ true))
-    × ((outcome ≡ Err fault.Write) ↔ (writer_failed ≡ true))
+-- The reader or the writer is blamed, by the fault of reads or that of writes, exactly where that
+-- one has failed.
+abbrev pub Blames : {A E : Type 0} → E → E → Result A E → Bool → Bool → Type 0
+Blames read write outcome reader_failed writer_failed =
+    ((outcome ≡ Err read) ↔ (reader_failed ≡ true))
+    × ((outcome ≡ Err write) ↔ (writer_failed ≡ true))

@@ -89,12 +89,6 @@ abbrev pub TellsThreads : ℕ → Result (Unit {0}) ThreadsFault → List ℕ �
 TellsThreads capacity result input text Over = AnswersThreads capacity result input text Over
     × StopsNear input
 
--- The reader or the writer is blamed exactly where that one has failed.
-abbrev pub BlamesThreads : Result (Unit {0}) ThreadsFault → Bool → Bool → Type 0
-BlamesThreads outcome reader_failed writer_failed =
-    ((outcome ≡ Err read_failed) ↔ (reader_failed ≡ true))
-    × ((outcome ≡ Err write_failed) ↔ (writer_failed ≡ true))
-
 -- how the program ends where a run gave no report
 abbrev pub run_ending : RunFault → Ending
 run_ending run.BadCount = Faulty

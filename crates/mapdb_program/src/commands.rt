@@ -6,7 +6,7 @@ ghost use Rattle.std.specs.Option.{option_and_then};
 ghost use Rattle.clap.specs.Simple.{new_shape};
 ghost use Rattle.clap.specs.Words.{app_of, found_of, kind_of, rows_of, rule_of, shape_of};
 ghost use Rattle.clap.specs.Words.{subcommand_rows_of};
-ghost use Rattle.mapdb_program.specs.Commands.{asked, capacity_given, capacity_rule, capacity_said};
+ghost use Rattle.mapdb_program.specs.Commands.{asked, threads_given, capacity_rule, capacity_said};
 ghost use Rattle.mapdb_program.specs.Commands.{explain, job_in, job_named, l4map, page_given};
 ghost use Rattle.mapdb_program.specs.Commands.{page_said};
 ghost use Rattle.mapdb_program.specs.Commands.{program, threads, word_rule};
@@ -164,8 +164,8 @@ fn page_given(given: &ArgMatches<'_>) -> Option<Asked>
 
 /// What the argument of `threads` asks for.
 #[tactic(auto, using(crate::proofs::CommandLemmas::first_value_rows))]
-fn capacity_given(given: &ArgMatches<'_>) -> Option<Job>
-    ensures { result ≡ capacity_given (rows_of (found_of given.now)) }
+fn threads_given(given: &ArgMatches<'_>) -> Option<Job>
+    ensures { result ≡ threads_given (rows_of (found_of given.now)) }
 {
     let capacity = capacity_said(given.get_str("capacity")?)?;
     Some(Job::Threads { capacity })
@@ -179,7 +179,7 @@ fn job_named(name: &str, given: &ArgMatches<'_>) -> Option<Job>
         return Some(Job::Run);
     }
     if name == "threads" {
-        return capacity_given(given);
+        return threads_given(given);
     }
     if name == "picture" {
         return Some(Job::Tell(Asked::Picture));

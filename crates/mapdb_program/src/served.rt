@@ -49,8 +49,8 @@ fn tell_out_of_memory_to<E: Sink>(errors: &mut E) -> Ending
     Ending::OutOfMemory
 }
 
-/// Tells why clap refuses the words, or the help that they call for, and answers how the program
-/// ends.
+/// Tells why clap refuses the words, or the help that they call for (which text, is not said), and
+/// answers how the program ends.
 fn refuse<E: Sink>(alloc: Global, error: &Error, errors: &mut E) -> Ending
     ensures memory { kind_of error.now ≡ ErrorKind.OutOfMemory →
         TellsOutOfMemory result (E.written errors.old) (E.written errors.new)

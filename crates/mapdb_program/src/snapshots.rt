@@ -5,8 +5,8 @@ ghost use Rattle.std.specs.Prelude.{OnOk, length, string_bytes};
 ghost use Rattle.std.specs.Io.KnownBytes.{Appends, Consumes};
 ghost use Rattle.mapdb_lines.specs.Limits.{line_limit};
 ghost use Rattle.mapdb_script.specs.Run.{HasEnded};
-ghost use Rattle.mapdb_program.specs.Snapshots.{BlamesSnapshot, IsFront, IsUnread, TellsSnapshot};
-ghost use Rattle.mapdb_program.specs.Snapshots.{answer_told};
+ghost use Rattle.mapdb_program.specs.Snapshots.{IsFront, IsUnread, TellsSnapshot, answer_told};
+ghost use Rattle.mapdb_program.specs.Statuses.{Blames};
 
 use mapdb_facts::Space;
 use mapdb_lines::{Failed, MOST_LINE_BYTES, READ_AHEAD, Sink, Source, write_all};
@@ -62,6 +62,7 @@ impl From<LoadFault> for TellFault {
     }
 }
 
+/// Of reads alone: a write that failed is told as [`TellFault::Write`] where it is made.
 impl From<Failed> for TellFault {
     ghost use Rattle.std.specs.Prelude.{◌≡◌};
     ghost use Rattle.mapdb_program.specs.declared.snapshots.TellFault.TheVariants.{Read};
@@ -135,7 +136,8 @@ pub fn tell_snapshot<R: Source, W: Sink>(
         × Appends (W.written writer.old) (W.written writer.new) text
         × TellsSnapshot asked result input text
         (HasEnded (R.has_ended reader.new) (R.left reader.new)) }
-    ensures blames { BlamesSnapshot result (R.has_failed reader.new) (W.has_failed writer.new) }
+    ensures blames { Blames TellFault.Read TellFault.Write result (R.has_failed reader.new)
+        (W.has_failed writer.new) }
     ensures once { R.has_failed reader.new ≡ true
         → R.has_ended reader.new ≡ R.has_ended reader.old }
 {

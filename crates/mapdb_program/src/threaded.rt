@@ -1,14 +1,15 @@
 //! Scripts whose commands run in threads.
 
-ghost use Rattle.std.specs.Prelude.{◌≡◌, ◌++◌, ◌⊎◌, ℕ, List, Ok, Err, false, true, IfOk, OnOk};
-ghost use Rattle.std.specs.Prelude.{string_bytes};
+ghost use Rattle.std.specs.Prelude.{◌≡◌, ◌++◌, ◌⊎◌, ◌↔◌, ℕ, List, Ok, Err, false, true, IfOk, OnOk};
+ghost use Rattle.std.specs.Prelude.{IsTrue, string_bytes};
 ghost use Rattle.std.specs.Io.KnownBytes.{Appends, Consumes};
 ghost use Rattle.mapdb_exchange.specs.Reports.{HoldSame};
 ghost use Rattle.mapdb_facts.specs.State.{SameAtoms};
 ghost use Rattle.mapdb_script.specs.Answering.{reply_line};
 ghost use Rattle.mapdb_script.specs.Run.{HasEnded};
 ghost use Rattle.mapdb_script.specs.Script.{fault_line};
-ghost use Rattle.mapdb_program.specs.Threaded.{BlamesThreads, IsTextWritten, TellsThreads};
+ghost use Rattle.mapdb_program.specs.Statuses.{Blames};
+ghost use Rattle.mapdb_program.specs.Threaded.{IsTextWritten, TellsThreads};
 ghost use Rattle.mapdb_program.specs.Threaded.{processor_text, read_failed, report_text};
 ghost use Rattle.mapdb_program.specs.Threaded.{write_failed};
 
@@ -60,12 +61,14 @@ fn push_line(text: &mut String, line: &str) -> Result<(), AllocError>
 
 /// Whether the copies of two parts hold the same.
 fn is_same(part: &Part, other: &Part) -> bool
-    ensures { SameAtoms part.now.history.copy.ops other.now.history.copy.ops → result ≡ true }
+    ensures { IsTrue result
+        ↔ SameAtoms part.now.history.copy.ops other.now.history.copy.ops }
 {
     part.history.copy().same(other.history.copy())
 }
 
-/// Whether all copies hold what the first one holds.
+/// Whether all copies hold what the first one holds. Of parts that hold the same it answers true;
+/// nothing else is said.
 fn are_same(parts: &[Part]) -> bool
     ensures { HoldSame parts.now → result ≡ true }
 {
@@ -156,7 +159,8 @@ pub fn run_threads<T: Threads + Wait + Sync, R: Source, W: Sink>(
         × Appends (W.written writer.old) (W.written writer.new) text
         × TellsThreads capacity result input text
         (HasEnded (R.has_ended reader.new) (R.left reader.new)) }
-    ensures blames { BlamesThreads result (R.has_failed reader.new) (W.has_failed writer.new) }
+    ensures blames { Blames read_failed write_failed result (R.has_failed reader.new)
+        (W.has_failed writer.new) }
     ensures once { R.has_failed reader.new ≡ true
         → R.has_ended reader.new ≡ R.has_ended reader.old }
 {

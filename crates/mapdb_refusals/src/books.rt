@@ -80,7 +80,7 @@ fn found_whole(alloc: Global, book: &Book, commands: &[Command], wanted: &Replic
     }
 }
 
-/// What commands come to that are done in the end, where the journal had so many entries before.
+/// What commands come to that are done in the end, by whether the journal replays to the copy.
 fn whole_again(
     alloc: Global,
     book: &Book,

@@ -56,6 +56,7 @@ fn issued_by(reply: &Reply) -> u64 {
     match *reply {
         Reply::Issued { count, .. } => u64::from(count),
         Reply::Revoked(count) => u64::from(count),
+        Reply::Ended => 1,
         _ => 0,
     }
 }

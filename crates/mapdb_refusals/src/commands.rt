@@ -25,10 +25,10 @@ pub fn map((from, source): (u16, u64), (to, target): (u16, u64), order: u8) -> C
 }
 
 /// Unmaps `2^order` bytes of a space with all rights. The space keeps its own.
-pub fn unmap(number: u16, addr: u64, order: u8) -> Command {
+pub fn unmap(number: u16, address: u64, order: u8) -> Command {
     Command::Unmap {
         space: space(number),
-        page: Fpage::new(addr, order).ok(),
+        page: Fpage::new(address, order).ok(),
         rights: Rights::ALL,
         flush: false,
     }

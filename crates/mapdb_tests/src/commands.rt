@@ -22,30 +22,30 @@ pub fn rights(bits: u8) -> Rights {
     Rights::from_bits(bits).unwrap_or(Rights::NONE)
 }
 
-/// The place of `2^s` bytes from an address on, which is one; nil where it is not.
-pub fn place(addr: u64, s: u8) -> Option<Fpage> {
-    Fpage::new(addr, s).ok()
+/// The place of `2^order` bytes from an address on, which is one; nil where it is not.
+pub fn place(address: u64, order: u8) -> Option<Fpage> {
+    Fpage::new(address, order).ok()
 }
 
-/// Maps `2^s` bytes from an address of one space to one of another.
-pub fn map((from, source): (u16, u64), (to, target): (u16, u64), s: u8, bits: u8) -> Command {
+/// Maps `2^order` bytes from an address of one space to one of another.
+pub fn map((from, source): (u16, u64), (to, target): (u16, u64), order: u8, bits: u8) -> Command {
     Command::Map {
         sender: space(from),
         item: MapItem {
             send_base: 0,
-            page: place(source, s),
+            page: place(source, order),
             rights: rights(bits),
         },
         receiver: space(to),
-        window: place(target, s),
+        window: place(target, order),
     }
 }
 
-/// Unmaps `2^s` bytes of a space, which keeps its own.
-pub fn unmap(number: u16, addr: u64, s: u8, bits: u8) -> Command {
+/// Unmaps `2^order` bytes of a space, which keeps its own.
+pub fn unmap(number: u16, address: u64, order: u8, bits: u8) -> Command {
     Command::Unmap {
         space: space(number),
-        page: place(addr, s),
+        page: place(address, order),
         rights: rights(bits),
         flush: false,
     }
