@@ -17,11 +17,8 @@ abbrev pub ServesAs : Option Pair → Status → Found → Found → Type 0
 ServesAs (Some pair) told old new = (told ≡ status.Done) × (new ≡ found_of pair)
 ServesAs None told old new = (told ≡ status.NotServed) × (new ≡ old)
 
--- the number of a space, which is below 2 ^ 16
-abbrev pub number_within : ℕ → Result ℕ Status
-number_within number = if nat_lt number 65536 then Ok number else Err status.BadSpace
-
 -- a space, and a page of it
-abbrev pub paged : Result Space Status → ℕ → Result Space Status
-paged (Err why) page = Err why
-paged (Ok space) page = if nat_lt page page_limit then Ok space else Err status.PageOutOfSpace
+abbrev pub space_with_page : Result Space Status → ℕ → Result Space Status
+space_with_page (Err why) page = Err why
+space_with_page (Ok space) page =
+    if nat_lt page page_limit then Ok space else Err status.PageOutOfSpace

@@ -19,11 +19,14 @@ abbrev pub ◌>>=◌ : {A B : Type 0} → Result A Status → (A → Result B St
 (Ok x) >>= f = f x
 (Err e) >>= f = Err e
 
+-- the number of a space, which is below 2 ^ 16
+abbrev pub number_within : ℕ → Result ℕ Status
+number_within number = if nat_lt number 65536 then Ok number else Err status.BadSpace
+
 -- the space, whose number is below 2 ^ 16
 abbrev pub space_given : RawSpace → Result Space Status
-space_given raw =
-    if nat_lt raw.number 65536 then Ok (record { number = raw.number; version = raw.version })
-    else Err status.BadSpace
+space_given raw = number_within raw.number
+    >>= (λ number. Ok (record { number = number; version = raw.version }))
 
 -- the space as C has it
 abbrev pub raw_space : Space → RawSpace

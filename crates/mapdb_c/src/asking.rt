@@ -8,15 +8,14 @@ ghost use Rattle.mapdb_replica.specs.Replica.{Log};
 ghost use Rattle.mapdb_replica.specs.Running.{IsRunEnd};
 ghost use Rattle.mapdb_replica.specs.Served.{served};
 ghost use Rattle.mapdb_replica.specs.Versions.{free_version};
-ghost use Rattle.mapdb_c.specs.Asking.{ServesAs, found_of, number_within, paged};
-ghost use Rattle.mapdb_c.specs.RawPlaces.{space_given};
+ghost use Rattle.mapdb_c.specs.Asking.{ServesAs, found_of, space_with_page};
+ghost use Rattle.mapdb_c.specs.RawPlaces.{number_within, space_given};
 ghost use Rattle.mapdb_c.specs.StatusNumbers.{Tells, status_number};
 ghost use Rattle.mapdb_c.specs.declared.statuses.Status.{Status};
 ghost use Rattle.mapdb_c.specs.declared.statuses.Status.TheVariants as status;
 
 use crate::handles::Handle;
-use crate::limits::SPACE_LIMIT;
-use crate::raw_places::{RawSpace, space_of};
+use crate::raw_places::{RawSpace, number_within, space_of};
 use crate::statuses::Status;
 use mapdb_facts::Space;
 use mapdb_fpage::{PAGE_LIMIT, Rights};
@@ -90,8 +89,8 @@ pub extern "C" fn mapdb_served(
 }
 
 /// The space, unless its number is too great or the page lies beyond the space.
-fn paged(space: RawSpace, page: u64) -> Result<Space, Status>
-    ensures told { result ≡ paged (space_given space) page }
+fn space_with_page(space: RawSpace, page: u64) -> Result<Space, Status>
+    ensures told { result ≡ space_with_page (space_given space) page }
     ensures within { OnOk result (page < PAGE_LIMIT) }
 {
     let space = space_of(space)?;
@@ -113,16 +112,16 @@ pub extern "C" fn mapdb_run_end(
     end: &mut u64,
 ) -> u32
     ensures kept { handle.new.held ≡ handle.old.held }
-    ensures refused { (why : Status) → paged (space_given space) page ≡ Err why
+    ensures refused { (why : Status) → space_with_page (space_given space) page ≡ Err why
         → (result ≡ status_number why) × (end.new ≡ end.old) }
-    ensures none { (given : Space) → paged (space_given space) page ≡ Ok given
+    ensures none { (given : Space) → space_with_page (space_given space) page ≡ Ok given
         → handle.old.held ≡ None
         → (result ≡ status_number status.NoCopy) × (end.new ≡ end.old) }
-    ensures ends { (given : Space) (log : Log) → paged (space_given space) page ≡ Ok given
+    ensures ends { (given : Space) (log : Log) → space_with_page (space_given space) page ≡ Ok given
         → handle.old.held ≡ Some log
         → (result ≡ status_number status.Done) × IsRunEnd (served log.ops given) page end.new }
 {
-    let space = match paged(space, page) {
+    let space = match space_with_page(space, page) {
         Ok(space) => space,
         Err(why) => return why.number(),
     };
@@ -156,16 +155,6 @@ pub extern "C" fn mapdb_counts(
     *own = replica.own_len();
     handle.put(replica);
     Status::Done.number()
-}
-
-/// A space's number, unless it is too great.
-fn number_within(number: u32) -> Result<u16, Status>
-    ensures { result ≡ number_within number }
-{
-    if number >= SPACE_LIMIT {
-        return Err(Status::BadSpace);
-    }
-    Ok(number as u16)
 }
 
 /// The least version of a space of this number whose end the copy does not hold.

@@ -30,7 +30,7 @@ pub struct Issued {
     pub first: u64,
     /// How many operations were issued. Where memory ran out these stand, and are not all.
     pub count: u64,
-    /// Where a space has ended, the one that has: of two, the sender is looked at first. 0 otherwise.
+    /// Where a space has ended, the one that has: of two, the sender is looked at first. Else 0.
     pub space: RawSpace,
 }
 

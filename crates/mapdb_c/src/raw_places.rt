@@ -1,8 +1,8 @@
 //! Spaces and fpages as C has them.
 
 ghost use Rattle.std.specs.Prelude.{◌≡◌, ◌<◌};
-ghost use Rattle.mapdb_c.specs.RawPlaces.{fpage_of, optional_place, place_given, raw_space};
-ghost use Rattle.mapdb_c.specs.RawPlaces.{rights_of, space_given, window_of};
+ghost use Rattle.mapdb_c.specs.RawPlaces.{fpage_of, number_within, optional_place, place_given};
+ghost use Rattle.mapdb_c.specs.RawPlaces.{raw_space, rights_of, space_given, window_of};
 
 use crate::faults::place_status;
 use crate::limits::{RIGHTS_LIMIT, SPACE_LIMIT};
@@ -32,15 +32,23 @@ pub struct RawFpage {
     pub rights: u32,
 }
 
+/// The number of a space, unless it is too great.
+pub fn number_within(number: u32) -> Result<u16, Status>
+    ensures { result ≡ number_within number }
+{
+    if number >= SPACE_LIMIT {
+        return Err(Status::BadSpace);
+    }
+    Ok(number as u16)
+}
+
 /// The space, unless its number is too great.
 pub fn space_of(raw: RawSpace) -> Result<Space, Status>
     ensures { result ≡ space_given raw }
 {
-    if raw.number >= SPACE_LIMIT {
-        return Err(Status::BadSpace);
-    }
+    let number = number_within(raw.number)?;
     Ok(Space {
-        number: raw.number as u16,
+        number,
         version: raw.version,
     })
 }
