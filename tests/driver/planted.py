@@ -1,6 +1,7 @@
 """Faults that are planted, one for each sort of comparison: a wrong program, a wrong expectation,
 or a model of which one line is another. Each passes only where the tests report it."""
 
+import shutil
 from concurrent.futures import ProcessPoolExecutor
 from typing import Optional
 
@@ -44,6 +45,10 @@ def run_planted(
         [number for number in chosen if faults[number].told is not None])
     if len(chosen) < len(faults):
         told += "; without a C compiler %d are left out" % (len(faults) - len(chosen))
+    if not libraries_faults():
+        told += "; without the built mapdb_refusals those of libraries are left out"
+    if shutil.which("dot") is None:
+        told += "; without Graphviz those of what it draws are left out"
     return tally.end(told)
 
 
