@@ -5,5 +5,6 @@ pub mod CutAtoms
 pub mod CutRuns
 pub mod KeptFacts
 pub mod Merged
+pub mod NamedCuts
 pub mod Nothing
 pub mod Spaces

@@ -1,6 +1,7 @@
 pub mod AllRecords
 pub mod Ascending
 pub mod HeldRecords
+pub mod HeldInOrder
 pub mod Listed
 pub mod LookedUp
 pub mod RecordAtoms

@@ -1,4 +1,3 @@
 pub mod ChangeLemmas
 pub mod Lists
-pub mod NameLemmas
 pub mod PlaceLemmas

@@ -1,5 +1,3 @@
-pub mod NamedValues
-pub mod NamePlaces
 pub mod Standing
 pub mod Ascending
 pub mod OwnPlaces

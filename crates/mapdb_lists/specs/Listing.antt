@@ -1,4 +1,4 @@
--- Whose places are listed, which of them meet pages, and which records are held under their names.
+-- Whose places are listed, and which of them meet pages.
 use Rattle.std.specs.Prelude.{◌≡◌, ℕ, Bool, true, false, List, [], ◌∷◌, ◌++◌, length, map, Option}
 use Rattle.std.specs.Prelude.{Some, None, count_by, ◌&&◌, ◌||◌, if◌then◌else◌, not}
 use Rattle.std.specs.BTreeMap.{is_at}
@@ -9,9 +9,6 @@ use Rattle.std.specs.declared.cmp.Ordering.{Ordering}
 use Rattle.std.specs.declared.cmp.Ordering.TheVariants.{Greater, Less}
 use Rattle.std.specs.declared.ops.Bound.{Bound}
 use Rattle.mapdb_facts.specs.Kept.{id_cmp, space_cmp}
-use Rattle.mapdb_facts.specs.Names.{same_id}
-use Rattle.mapdb_facts.specs.declared.names.RecordId.{RecordId}
-use Rattle.mapdb_facts.specs.declared.operations.Record as operations
 use Rattle.mapdb_lists.specs.declared.own_places.OwnPlace.{OwnPlace}
 use Rattle.mapdb_lists.specs.declared.own_places.OwnPlaces.{OwnPlaces}
 use Rattle.mapdb_lists.specs.declared.places.Listed.{Listed}
@@ -92,14 +89,6 @@ all_listed places = entries_among places.own.entries
 -- how much is listed
 abbrev pub listed_len : Places → ℕ
 listed_len places = length (all_listed places)
-
--- the record that is held under a name, where there is one
-abbrev pub held_record : Places → RecordId → Option operations.Record
-held_record places id = lookup (same_id id) places.held.entries
-
--- the same where one record more is held, under its own name
-abbrev pub held_with : Places → operations.Record → RecordId → Option operations.Record
-held_with places r id = if same_id r.id id then Some r else held_record places id
 
 -- how many pages the entry has
 abbrev pub listed_pages : Listed → ℕ

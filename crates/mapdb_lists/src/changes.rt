@@ -6,9 +6,8 @@ ghost use Rattle.mapdb_lists.specs.Changes.{IsStretch, IsWritten, at_first, cach
 ghost use Rattle.mapdb_lists.specs.Changes.{past_the_end, seen_in, covers};
 ghost use Rattle.mapdb_lists.specs.OwnChanges.{IsLastUpTo, IsNoneUntil};
 
-use crate::by_name::ByName;
 use crate::own_changes::OwnChanges;
-use mapdb_facts::RecordId;
+use mapdb_facts::{ByName, RecordId};
 use mapdb_fpage::{PAGE_LIMIT, Rights};
 use std::alloc::{AllocError, Global};
 

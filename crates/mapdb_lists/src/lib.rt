@@ -1,9 +1,8 @@
 //! What an index of rights keeps: what records have at pages, and where records stand.
 //!
 //! [`AllChanges`] has the pages of each record from which something else stands. [`Places`] has the
-//! places of each owner, a space or the record that its children come from, and the records
-//! themselves. Nothing here knows what the facts say: that what is kept agrees with them is the
-//! caller's to see to.
+//! places of each owner, a space or the record that its children come from. Nothing here knows what
+//! the facts say: that what is kept agrees with them is the caller's to see to.
 //!
 //! # A use
 //!
@@ -17,7 +16,6 @@
 //! ```
 #![tactic(auto)]
 
-mod by_name;
 mod change_lists;
 mod changes;
 mod few_changes;
@@ -26,8 +24,6 @@ mod limits;
 mod list_writes;
 mod many_changes;
 mod many_places;
-mod name_places;
-mod names;
 mod orders;
 mod own_changes;
 mod own_places;

@@ -15,6 +15,3 @@ pub(crate) const SOME_PLACES: usize = 1024;
 
 /// For each order below this there is a bit.
 pub(crate) const ORDER_LIMIT: u8 = 64;
-
-/// How far beyond twice the names that came before it the number of a near name may lie.
-pub(crate) const NEAR_NUMBERS: u64 = 1024;

@@ -10,10 +10,9 @@ ghost use Rattle.mapdb_lists.specs.Listing.{IsPut, IsRemoved};
 ghost use Rattle.mapdb_lists.specs.Owners.{same_owner};
 ghost use Rattle.mapdb_lists.specs.declared.places.Owner.{Owner};
 
-use crate::by_name::ByName;
 use crate::own_places::{OwnPlace, OwnPlaces};
 use crate::places::Owner;
-use mapdb_facts::{RecordId, Space};
+use mapdb_facts::{ByName, RecordId, Space};
 use std::alloc::{AllocError, Global};
 use std::collections::HashMap;
 use std::marker::Model;

@@ -1,20 +1,18 @@
 //! The places of records, by owner: a space has those of its records, a record those that its
-//! children's pages come from. Beside them the records themselves, by name.
+//! children's pages come from.
 
 ghost use Rattle.std.specs.Prelude.{◌≡◌, ◌&&◌, ◌||◌, false, IfSome, None, OnOk, not, option_map};
 ghost use Rattle.std.specs.BTreeMap.{is_at};
 ghost use Rattle.std.specs.Option.{option_copied};
 ghost use Rattle.std.specs.declared.ops.Bound.TheVariants.{Excluded, Included};
-ghost use Rattle.mapdb_facts.specs.declared.names.RecordId.{RecordId};
-ghost use Rattle.mapdb_lists.specs.Listing.{AllAligned, IsFirstInside, IsNextMeeting, held_record};
-ghost use Rattle.mapdb_lists.specs.Listing.{held_with, is_listed, listed_cmp, listed_for};
-ghost use Rattle.mapdb_lists.specs.Listing.{own_place, places_in, owner_places};
+ghost use Rattle.mapdb_lists.specs.Listing.{AllAligned, IsFirstInside, IsNextMeeting, is_listed};
+ghost use Rattle.mapdb_lists.specs.Listing.{listed_cmp, listed_for, own_place, places_in};
+ghost use Rattle.mapdb_lists.specs.Listing.{owner_places};
 ghost use Rattle.mapdb_lists.specs.declared.places.Listed.{Listed};
 
-use crate::by_name::ByName;
 use crate::own_places::{OwnPlace, OwnPlaces};
 use crate::owners_places::OwnersPlaces;
-use mapdb_facts::{Record, RecordId, Space};
+use mapdb_facts::{RecordId, Space};
 use std::alloc::{AllocError, Global};
 
 /// Who has a place listed.
@@ -77,58 +75,36 @@ fn listed_for(owner: Owner, place: Option<OwnPlace>) -> Option<Listed>
     }
 }
 
-/// The places of all owners, each owner's by themselves, and the records whose they are: a step
-/// from a place to its record looks here, and not in the facts.
+/// The places of all owners, each owner's by themselves.
 #[derive(Drop)]
 pub struct Places {
     own: OwnersPlaces,
-    held: ByName<Record>,
 }
 
 impl Places {
-    /// No places and no records. It takes no memory.
+    /// No places. It takes no memory.
     pub fn new(alloc: Global) -> Places
-        ensures no_place { (e : Listed) → is_listed result e ≡ false }
-        ensures no_record { (id : RecordId) → held_record result id ≡ None }
+        ensures { (e : Listed) → is_listed result e ≡ false }
     {
         Places {
             own: OwnersPlaces::new(alloc),
-            held: ByName::new(alloc),
         }
     }
 
     /// Lists one entry more. An error where memory ran out.
     pub fn insert(&mut self, entry: Listed) -> Result<(), AllocError>
-        ensures listed { OnOk result ((e : Listed) → is_listed self.new e
+        ensures { OnOk result ((e : Listed) → is_listed self.new e
             ≡ (is_at (listed_cmp entry) e || is_listed self.old e)) }
-        ensures records { (id : RecordId) → held_record self.new id ≡ held_record self.old id }
     {
         self.own.put(entry.owner, entry.own_place())
     }
 
     /// Lets go of an entry, where it is listed; it takes no memory.
     pub fn remove(&mut self, entry: Listed)
-        ensures listed { (e : Listed) → is_listed self.new e
+        ensures { (e : Listed) → is_listed self.new e
             ≡ (not (is_at (listed_cmp entry) e) && is_listed self.old e) }
-        ensures records { (id : RecordId) → held_record self.new id ≡ held_record self.old id }
     {
         self.own.remove(entry.owner, entry.own_place())
-    }
-
-    /// Holds one record more, under its name. An error where memory ran out.
-    pub fn hold(&mut self, mapping: &Record) -> Result<(), AllocError>
-        ensures records { OnOk result ((id : RecordId) → held_record self.new id
-            ≡ held_with self.old mapping.now id) }
-        ensures listed { (e : Listed) → is_listed self.new e ≡ is_listed self.old e }
-    {
-        self.held.insert(mapping.id, *mapping)
-    }
-
-    /// The record that is held under a name, where there is one.
-    pub fn record(&self, id: RecordId) -> Option<Record>
-        ensures { result ≡ held_record self.now id }
-    {
-        self.held.get(id).copied()
     }
 
     /// The places of an owner, where it has some: a walk over them looks them up once.

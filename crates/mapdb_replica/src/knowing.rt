@@ -13,14 +13,7 @@ impl Replica {
     pub(crate) fn is_new(&self, op: &Op) -> bool
         ensures { result ≡ is_new (state_of self.now.ops) op.now }
     {
-        if self.ops.contains(op) {
-            return false;
-        }
-        match op {
-            // What it takes may be taken by others, part by part.
-            Op::Cut(_) => self.facts.is_new(op),
-            _ => true,
-        }
+        self.facts.is_new(op)
     }
 
     /// How many first operations of the list say nothing that is not held: all, or those in front

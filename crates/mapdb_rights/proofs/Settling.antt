@@ -1,7 +1,6 @@
 pub mod Built
 pub mod Ended
 pub mod Followed
-pub mod HeldRecords
 pub mod IdleRecords
 pub mod LiveRecords
 pub mod Pendings

@@ -4,12 +4,11 @@ use Rattle.mapdb_facts.specs.Looking.{Holds}
 use Rattle.mapdb_facts.specs.Merging.{IsNamed}
 use Rattle.mapdb_facts.specs.State.{State, join, said}
 use Rattle.mapdb_facts.specs.WellFormed.{IsFormedRecord}
-use Rattle.mapdb_facts.specs.declared.names.RecordId.{RecordId}
 use Rattle.mapdb_facts.specs.declared.operations.Op.{Op}
 use Rattle.mapdb_facts.specs.declared.operations.Record.{Record}
 use Rattle.mapdb_lists.specs.declared.changes.AllChanges.{AllChanges}
 use Rattle.mapdb_lists.specs.Changes.{cached_in}
-use Rattle.mapdb_lists.specs.Listing.{AllAligned, held_record}
+use Rattle.mapdb_lists.specs.Listing.{AllAligned}
 use Rattle.mapdb_lists.specs.declared.places.Places.{Places}
 use Rattle.mapdb_rights.specs.Caching.{AreRights}
 use Rattle.mapdb_rights.specs.CachedFrames.{AreFrames}
@@ -19,14 +18,13 @@ use Rattle.mapdb_rights.specs.LivePlaces.{AreLive}
 
 -- the source of each record that is held is listed, as far as it is not revoked, and of no other
 -- record a source or a place, and what is listed is aligned; each record that is held stands under
--- its own name and is well-formed; under each name the same is kept beside the places
+-- its own name and is well-formed
 pub record AreListed (S : State) (listed : Places) : Type 0 where
   pub named : IsNamed S
   pub formed : (r : Record) → Holds S r → IsFormedRecord r
   pub sources : HasSources S listed
   pub aligned : AllAligned listed
   pub held : AreOfHeld S listed
-  pub by_name : (id : RecordId) → held_record listed id ≡ S.record_at id
 
 -- so it was for a state that the operation made this one
 pub record WereListed (listed : Places) (op : Op) (S : State) : Type 0 where

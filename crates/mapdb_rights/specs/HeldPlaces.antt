@@ -1,12 +1,11 @@
 -- Which records have their sources listed: those that are held, but for what is revoked; and no
 -- other record has a source or a place listed.
-use Rattle.std.specs.Prelude.{◌≡◌, ◌⊎◌, Some, true}
+use Rattle.std.specs.Prelude.{◌≡◌, ◌⊎◌, true}
 use Rattle.mapdb_fpage.specs.Place.{IsPlace}
 use Rattle.mapdb_facts.specs.Looking.{Holds}
 use Rattle.mapdb_facts.specs.State.{State}
-use Rattle.mapdb_facts.specs.declared.names.RecordId.{RecordId}
 use Rattle.mapdb_facts.specs.declared.operations.Record.{Record}
-use Rattle.mapdb_lists.specs.Listing.{held_record, is_listed}
+use Rattle.mapdb_lists.specs.Listing.{is_listed}
 use Rattle.mapdb_lists.specs.declared.places.Listed.{Listed}
 use Rattle.mapdb_lists.specs.declared.places.Owner.{Owner}
 use Rattle.mapdb_lists.specs.declared.places.Owner.TheVariants as owners
@@ -59,8 +58,3 @@ pub record IsOfHeld (S : State) (e : Listed) : Type 0 where
 -- nothing is listed but held records
 abbrev pub AreOfHeld : State → Places → Type 0
 AreOfHeld S set = (e : Listed) → is_listed set e ≡ true → IsOfHeld S e
-
--- what is held beside the places is the state's
-abbrev pub AreHeldOf : State → Places → Type 0
-AreHeldOf S set = (id : RecordId) (r : Record) → held_record set id ≡ Some r
-    → S.record_at id ≡ Some r

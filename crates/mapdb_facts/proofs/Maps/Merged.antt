@@ -11,11 +11,10 @@ use Rattle.mapdb_join.specs.declared.merge.MergeFault.TheVariants.{Clash, Memory
 use Rattle.mapdb_facts.specs.declared.names.RecordId.{RecordId}
 use Rattle.mapdb_facts.specs.declared.names.Space.{Space}
 use Rattle.mapdb_facts.specs.Facts.{state_of_facts}
-use Rattle.mapdb_facts.specs.Kept.{Cuts, IsFacts, Kept, Records, cut_in, ended_in, fault_at, has_cut, has_record, id_cmp, space_cmp}
+use Rattle.mapdb_facts.specs.Kept.{Cuts, IsFacts, Kept, Records, cut_in, ended_in, has_cut, has_record, id_cmp, space_cmp}
 use Rattle.mapdb_join.specs.Runs.{has_at}
 use Rattle.mapdb_facts.specs.Merging.{Includes, IsStateBetween, MergeLeaves}
 use Rattle.mapdb_facts.specs.State.{Atom, End, Has, Rec, Rev}
-use Rattle.mapdb_facts.proofs.Maps.Clashes.{IsRecordSpot, agree_where, excludes_record, least_clash}
 use Rattle.mapdb_facts.proofs.Maps.CutAtoms.{cut_with, cut_within}
 use Rattle.mapdb_facts.proofs.Maps.KeptFacts.{formed_within, rights_within}
 use Rattle.mapdb_facts.proofs.RecordLemmas.RecordAtoms.{atom_of_record, record_of_atom}
@@ -46,14 +45,10 @@ module _ (a b c : Kept) (records : IsBetween has_record a.records b.records c.re
   pub between_states : IsStateBetween (state_of_facts a) (state_of_facts b) (state_of_facts c)
   between_states = record { kept = kept_atom; within = within_atom }
 
-abbrev pub RecordFault : Records → Records → Records → MergeFault (RecordId × Unit {0}) → Type 0
-RecordFault old other new fault = FaultLeaves has_record excludes_record IsRecordSpot old other new fault
-
--- what is true of the maps where the records did not merge
-pub kept_fault : (old other : Kept) (new : Records) (fault : MergeFault (RecordId × Unit {0})) → IsFacts old.records old.cuts → IsFacts other.records other.cuts → RecordFault old.records other.records new fault → IsFacts new old.cuts
-kept_fault old other new (Clash spot) one two h = subst (λ (x : Records). IsFacts x old.cuts) (sym h.2) one
-kept_fault old other new (Memory refused) one two h = record {
-  formed = formed_within old.records other.records new h.1.within one.formed two.formed;
+-- what is true of the maps where the records merged in part
+pub kept_in_part : (old other : Kept) (new : Records) → IsFacts old.records old.cuts → IsFacts other.records other.cuts → IsBetween has_record old.records other.records new → IsFacts new old.cuts
+kept_in_part old other new one two between = record {
+  formed = formed_within old.records other.records new between.within one.formed two.formed;
   rights = one.rights;
 }
 
@@ -64,35 +59,15 @@ kept_merged old other records taken one two atoms between = record {
   rights = rights_within old.cuts other.cuts taken between.within one.rights two.rights;
 }
 
--- the fault of the records is the merge's
-pub fault_leaves : (old other : Kept) (new : Records) (fault : MergeFault (RecordId × Unit {0})) → RecordFault old.records other.records new fault → MergeLeaves old other (record { records = new; cuts = old.cuts; ended = old.ended }) (fault_at fault)
-fault_leaves old other new (Clash spot) h = (least_clash old other spot h.1, λ i. record { records = h.2 i; cuts = old.cuts; ended = old.ended })
-fault_leaves old other new (Memory refused) h = (
-  agree_where old other h.0,
-  between_states old other (record { records = new; cuts = old.cuts; ended = old.ended }) h.1 (old_between has_cut old.cuts other.cuts) (old_between (has_key space_cmp) old.ended other.ended),
-)
-
--- revocations never clash, nor do ends
-abbrev pub CutFault : Cuts → Cuts → Cuts → MergeFault (RecordId × Unit {0}) → Type 0
-CutFault old other new fault =
-    FaultLeaves has_cut (excludes_under (λ _ _. ⊥)) (IsFirstClash id_cmp has_at (λ _ _. ⊥) (λ _ _ _. Unit {0})) old other new fault
-
+-- ends never clash
 abbrev pub EndFault : List Space → List Space → List Space → MergeFault (Unit {0}) → Type 0
 EndFault old other new fault = FaultLeaves (has_key space_cmp) (λ _ _. ⊥) (λ _ _ _. Unit {0}) old other new fault
-
-pub cuts_between : (old other new : Cuts) (fault : MergeFault (RecordId × Unit {0})) → CutFault old other new fault → IsBetween has_cut old other new
-cuts_between old other new (Clash spot) h = absurd h.0.apart.1
-cuts_between old other new (Memory refused) h = h.1
 
 pub ends_between : (old other new : List Space) (fault : MergeFault (Unit {0})) → EndFault old other new fault → IsBetween (has_key space_cmp) old other new
 ends_between old other new (Clash spot) h = absurd h.0.apart
 ends_between old other new (Memory refused) h = h.1
 
 -- so what does not merge there is refused memory
-pub cuts_refused : (old other new : Cuts) (fault : MergeFault (RecordId × Unit {0})) → CutFault old other new fault → TellsMemory fault
-cuts_refused old other new (Clash spot) h = absurd h.0.apart.1
-cuts_refused old other new (Memory refused) h = tt
-
 pub ends_refused : (old other new : List Space) (fault : MergeFault (Unit {0})) → EndFault old other new fault → TellsMemory fault
 ends_refused old other new (Clash spot) h = absurd h.0.apart
 ends_refused old other new (Memory refused) h = tt

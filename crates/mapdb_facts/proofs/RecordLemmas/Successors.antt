@@ -1,6 +1,6 @@
 -- The next record in the map by name, and the greatest number.
 use Rattle.std.specs.Prelude.{◌≡◌, true, false, Option, Some, None, IsSome, IfSome, refl}
-use Rattle.std.proofs.Common.{sym, ◌∙◌, ap, subst, inl, inr}
+use Rattle.std.proofs.Common.{sym, ◌∙◌, ap, subst, inl, inr, arith}
 use Rattle.std.proofs.lemmas.Bool.{cases_Bool, true≢false}
 use Rattle.std.specs.Map.{lookup}
 use Rattle.std.specs.Ordering.{is_lt}
@@ -48,6 +48,13 @@ next_here kept formed after key r above found least =
           (not_before_from key s.id (least s.id (is_above after s.id test) (is_some_from _ s held)));
     }
 
+-- what is held under it is the next record
+pub next_by : (kept : Kept) → Formed kept.records → (after : Option RecordId) (key : RecordId) (found : Option Record) → IsAbove id_cmp after key → IsSome (record_in kept.records key)
+    → ((q : RecordId) → IsAbove id_cmp after q → IsSome (record_in kept.records q) → IsLeBy id_cmp key q) → found ≡ record_in kept.records key → IsFound (state_of_facts kept) after found
+next_by kept formed after key found above some least is =
+    let one = some_value (record_in kept.records key) some in
+    subst (λ o. IsFound (state_of_facts kept) after o) (sym (is ∙ one.1)) (next_here kept formed after key one.0 above one.1 least)
+
 -- no name is above another
 pub none_here : (kept : Kept) (after : Option RecordId) → ((q : RecordId) → IsAbove id_cmp after q → lookup (is_at (id_cmp q)) kept.records ≡ None) → IsFound (state_of_facts kept) after None
 none_here kept after none = λ s held. elim (cases_Bool (is_after after s.id)) [
@@ -67,6 +74,13 @@ pub greatest_here : (kept : Kept) → Formed kept.records → (key : RecordId) �
 greatest_here kept formed key some most = record {
   most = λ r held. number_at_most key r.id (most r.id (is_some_from _ r held));
   held = λ positive. let one = one_of_name kept.records formed key some in (one.0, one.1, ap (λ (x : RecordId). x.number) one.3);
+}
+
+-- where none is held it is 0
+pub none_greatest : (kept : Kept) → ((id : RecordId) → record_in kept.records id ≡ None) → IsGreatest (state_of_facts kept) 0
+none_greatest kept none = record {
+  most = λ r held. absurd (none_some r (sym (none r.id) ∙ held));
+  held = λ positive. absurd (omega (arith, positive));
 }
 
 -- the next record is well-formed

@@ -13,7 +13,6 @@ use Rattle.mapdb_facts.specs.Exact.{exact_id}
 use Rattle.mapdb_facts.specs.Kept.{id_cmp}
 use Rattle.mapdb_facts.specs.Names.{root, same_id}
 use Rattle.mapdb_lists.specs.declared.own_places.OwnPlace.{OwnPlace}
-use Rattle.mapdb_lists.specs.contracts.own_places.OwnPlaceOrd.TheImpl as place_ord
 use Rattle.mapdb_lists.specs.contracts.own_places.OwnPlacePartialEq.TheImpl as place_eq
 use Rattle.mapdb_lists.specs.OwnPlaces.{place_cmp, start}
 use Rattle.mapdb_lists.proofs.Lists.ListedOrder.{from_equal, id_total, less_from, root_first, three_ways, up_to}

@@ -7,12 +7,11 @@ use Rattle.mapdb_fpage.specs.Bounds.{page_limit}
 use Rattle.mapdb_facts.proofs.Lists.SameNames.{some_same}
 use Rattle.mapdb_facts.specs.Looking.{Holds}
 use Rattle.mapdb_facts.specs.State.{State}
-use Rattle.mapdb_facts.specs.declared.names.RecordId.{RecordId}
 use Rattle.mapdb_facts.specs.declared.operations.Record.{Record}
 use Rattle.mapdb_lists.proofs.Lists.ListedOrder.{exact_listed, owner_is}
 use Rattle.mapdb_lists.proofs.PlaceLemmas.Meetings.{some_pages}
 use Rattle.mapdb_lists.specs.Changes.{Cached}
-use Rattle.mapdb_lists.specs.Listing.{AllAligned, IsAligned, held_record, is_listed, listed_cmp, own_place}
+use Rattle.mapdb_lists.specs.Listing.{AllAligned, IsAligned, is_listed, listed_cmp, own_place}
 use Rattle.mapdb_lists.specs.OwnPlaces.{own_meets, own_pages}
 use Rattle.mapdb_lists.specs.declared.places.Listed.{Listed}
 use Rattle.mapdb_lists.specs.declared.places.Owner.TheVariants as owners
@@ -29,8 +28,7 @@ meets_all e at =
     let limit = at.in_space in
     lt-ltb (max e.first 0) (min (e.first + own_pages (own_place e)) page_limit) (omega arith)
 
-module _ (S : State) (old new : Places) (gone : Listed) (less : (e : Listed) → is_listed new e ≡ (not (is_at (listed_cmp gone) e) && is_listed old e))
-    (records : (id : RecordId) → held_record new id ≡ held_record old id) where
+module _ (S : State) (old new : Places) (gone : Listed) (less : (e : Listed) → is_listed new e ≡ (not (is_at (listed_cmp gone) e) && is_listed old e)) where
   was : (e : Listed) → is_listed new e ≡ true → is_listed old e ≡ true
   was e has = (and_parts (not (is_at (listed_cmp gone) e)) (is_listed old e) (sym (less e) ∙ has)).1
 
@@ -51,7 +49,6 @@ module _ (S : State) (old new : Places) (gone : Listed) (less : (e : Listed) →
     };
     aligned = λ e has. are.aligned e (was e has);
     held = λ e has. are.held e (was e has);
-    by_name = λ id. records id ∙ are.by_name id;
   }
 
   idle_less : (cached : Cached) → ((r : Record) → Holds S r → gone ≡ place_of r → IsRevokedBelow S r) → HasIdle S cached old → HasIdle S cached new
@@ -99,8 +96,8 @@ module _ (S : State) (old new : Places) (gone : Listed) (less : (e : Listed) →
 
 -- the place of a held record more is listed
 pub listed_with_place : (S : State) (old new : Places) (m : Record) → Holds S m → AllAligned new → ((e : Listed) → is_listed old e ≡ true → is_listed new e ≡ true)
-    → ((e : Listed) → is_listed new e ≡ true → (e ≡ place_of m) ⊎ (is_listed old e ≡ true)) → ((id : RecordId) → held_record new id ≡ held_record old id) → AreListed S old → AreListed S new
-listed_with_place S old new m own aligned kept no_more records are = record {
+    → ((e : Listed) → is_listed new e ≡ true → (e ≡ place_of m) ⊎ (is_listed old e ≡ true)) → AreListed S old → AreListed S new
+listed_with_place S old new m own aligned kept no_more are = record {
   named = are.named;
   formed = are.formed;
   sources = λ r held. let l = are.sources r held in record {
@@ -115,5 +112,4 @@ listed_with_place S old new m own aligned kept no_more records are = record {
     | inl here ↦ record { r = m; held = own; is = inl here }
     | inr before ↦ are.held e before
   ];
-  by_name = λ id. records id ∙ are.by_name id;
 }

@@ -14,7 +14,7 @@ use Rattle.mapdb_facts.specs.declared.operations.Record.{Record}
 use Rattle.mapdb_facts.specs.declared.operations.Revocation.{Revocation}
 use Rattle.mapdb_lists.specs.declared.places.Listed.{Listed}
 use Rattle.mapdb_lists.specs.Changes.{Cached, PageChanges}
-use Rattle.mapdb_lists.specs.Listing.{AllAligned, held_record, is_listed}
+use Rattle.mapdb_lists.specs.Listing.{AllAligned, is_listed}
 use Rattle.mapdb_lists.specs.declared.places.Owner.TheVariants as owners
 use Rattle.mapdb_lists.proofs.Lists.ListedOrder.{owner_is}
 use Rattle.mapdb_lists.specs.declared.places.Places.{Places}
@@ -74,7 +74,6 @@ listed_alike S before T set is none are = record {
   sources = λ r held. listed_later S before T set is r (are.sources r (alike r.id ∙ held));
   aligned = are.aligned;
   held = of_held_on S before T set is are.held;
-  by_name = λ id. are.by_name id ∙ alike id;
 }
   where
     alike : (id : RecordId) → before.record_at id ≡ S.record_at id
@@ -102,7 +101,7 @@ looked_at S before m is r o at held = ap (λ p. first_of p (if same_id m.id r.id
 -- the source of a record more is listed
 module _ (old new : Places) (kept : (e : Listed) → is_listed old e ≡ true → is_listed new e ≡ true)
     (S before : State) (m : Record) (is : S ≡ join before (said (Born m))) (there : (r : Record) → S.record_at m.id ≡ Some r → HasSource new r)
-    (by_name : (id : RecordId) → held_record new id ≡ S.record_at id) (listed : AreListed before old) where
+    (listed : AreListed before old) where
   newly : (r : Record) → Holds S r → (t : Bool) → (if t then Some m else None) ≡ Some r → HasSource new r
   newly r held true e = there r (ap (λ (s : Record). S.record_at s.id) (some_same m r e) ∙ held)
   newly r held false e = absurd (none_some r e)
@@ -126,7 +125,6 @@ module _ (old new : Places) (kept : (e : Listed) → is_listed old e ≡ true �
     sources = λ r held. listed_of r held (before.record_at r.id) refl (looked_at S before m is r (before.record_at r.id) refl held);
     aligned = aligned;
     held = held_all;
-    by_name = by_name;
   }
 
 -- what is listed with a held record more is of held records

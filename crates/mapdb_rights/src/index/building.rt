@@ -1,9 +1,8 @@
 //! Cached rights of whole facts.
 
-ghost use Rattle.std.specs.Prelude.{◌≡◌, [], false, None, OnOk};
+ghost use Rattle.std.specs.Prelude.{◌≡◌, [], false, OnOk};
 ghost use Rattle.mapdb_facts.specs.Facts.{state_of_facts};
-ghost use Rattle.mapdb_facts.specs.declared.names.RecordId.{RecordId};
-ghost use Rattle.mapdb_lists.specs.Listing.{AllAligned, held_record, is_listed};
+ghost use Rattle.mapdb_lists.specs.Listing.{AllAligned, is_listed};
 ghost use Rattle.mapdb_lists.specs.declared.places.Listed.{Listed};
 ghost use Rattle.mapdb_rights.specs.HeldPlaces.{AreOfHeld};
 ghost use Rattle.mapdb_rights.specs.Following.{Stands};
@@ -31,7 +30,6 @@ pub fn settle_all(
     requires changes { changes.old.own.entries ≡ [] }
     requires listed { AllAligned listed.old }
     requires held { AreOfHeld (state_of_facts facts.now) listed.old }
-    requires none { (id : RecordId) → held_record listed.old id ≡ None }
     requires no_place { (e : Listed) → is_listed live.old e ≡ false }
     ensures { OnOk result (Stands changes.new listed.new live.new (state_of_facts facts.now)) }
 {

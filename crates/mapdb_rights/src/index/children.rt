@@ -10,12 +10,10 @@ ghost use Rattle.mapdb_facts.specs.declared.names.RecordId.{RecordId};
 ghost use Rattle.mapdb_facts.specs.declared.operations.Record.{Record};
 ghost use Rattle.mapdb_lists.specs.Listing.{AllAligned, is_listed, listed_len, own_place};
 ghost use Rattle.mapdb_lists.specs.OwnPlaces.{AreAligned, own_list, stands};
-ghost use Rattle.mapdb_rights.specs.Following.{AreListed};
 ghost use Rattle.mapdb_rights.specs.HeldPlaces.{place_of, source_of};
 ghost use Rattle.mapdb_rights.specs.Pending.{IsPending, share, weight};
 ghost use Rattle.mapdb_rights.specs.Right.{source_page};
 
-use super::listing::record_under;
 use super::stale::Stale;
 use mapdb_facts::{Facts, Record, RecordId, Space};
 use mapdb_fpage::PAGE_LIMIT;
@@ -55,14 +53,12 @@ fn push_child(
 /// The pages of a child, if it is one of this parent, join what is stale.
 fn push_held(
     stack: &mut Vec<Stale>,
-    listed: &Places,
     facts: &Facts,
     parent: RecordId,
     id: RecordId,
     first: u64,
     end: u64,
 ) -> Result<(), AllocError>
-    requires { AreListed (state_of_facts facts.now) listed.now }
     ensures kept { OnOk result ((other : RecordId) (page : ℕ)
         → IsPending stack.old.items other page → IsPending stack.new.items other page) }
     ensures stale { OnOk result ((r : Record) → (state_of_facts facts.now).record_at id ≡ Some r
@@ -72,7 +68,7 @@ fn push_held(
     ensures weight { OnOk result ((base : ℕ) → 0 < base → weight base stack.new.items
         ≤ weight base stack.old.items + share base (parent.number + 1)) }
 {
-    match record_under(listed, facts, id) {
+    match facts.record(id) {
         Some(child) if child.parent.is(parent) => push_child(stack, &child, first, end),
         _ => Ok(()),
     }
@@ -83,14 +79,12 @@ fn push_held(
 fn push_sources(
     stack: &mut Vec<Stale>,
     own: &OwnPlaces,
-    listed: &Places,
     facts: &Facts,
     parent: RecordId,
     first: u64,
     end: u64,
 ) -> Result<(), AllocError>
-    requires aligned { AreAligned (own_list own.now) }
-    requires listed { AreListed (state_of_facts facts.now) listed.now }
+    requires { AreAligned (own_list own.now) }
     ensures kept { OnOk result ((id : RecordId) (page : ℕ)
         → IsPending stack.old.items id page → IsPending stack.new.items id page) }
     ensures stale { OnOk result ((r : Record) → Holds (state_of_facts facts.now) r
@@ -104,7 +98,7 @@ fn push_sources(
 {
     let mut sweep = Sweep::start();
     'children: while let Some(next) = own.next_place(first, end, sweep) {
-        push_held(stack, listed, facts, parent, next.place.id, first, end)?;
+        push_held(stack, facts, parent, next.place.id, first, end)?;
         sweep = next.sweep;
     }
     Ok(())
@@ -120,7 +114,7 @@ pub(crate) fn push_children(
     first: u64,
     end: u64,
 ) -> Result<(), AllocError>
-    requires { AreListed (state_of_facts facts.now) listed.now }
+    requires { AllAligned listed.now }
     ensures kept { OnOk result ((id : RecordId) (page : ℕ)
         → IsPending stack.old.items id page → IsPending stack.new.items id page) }
     ensures stale { OnOk result ((r : Record) → Holds (state_of_facts facts.now) r
@@ -133,26 +127,20 @@ pub(crate) fn push_children(
         + listed_len listed.now * share base (parent.number + 1)) }
 {
     match listed.own(Owner::Record(parent)) {
-        Some(own) => push_sources(stack, own, listed, facts, parent, first, end),
+        Some(own) => push_sources(stack, own, facts, parent, first, end),
         None => Ok(()),
     }
 }
 
 /// The pages of a record's place join what is stale.
-fn push_place(
-    stack: &mut Vec<Stale>,
-    listed: &Places,
-    facts: &Facts,
-    id: RecordId,
-) -> Result<(), AllocError>
-    requires { AreListed (state_of_facts facts.now) listed.now }
+fn push_place(stack: &mut Vec<Stale>, facts: &Facts, id: RecordId) -> Result<(), AllocError>
     ensures kept { OnOk result ((other : RecordId) (page : ℕ)
         → IsPending stack.old.items other page → IsPending stack.new.items other page) }
     ensures stale { OnOk result ((r : Record) → (state_of_facts facts.now).record_at id ≡ Some r
         → (page : ℕ)
         → holds r.place page ≡ true → IsPending stack.new.items id page) }
 {
-    if let Some(mapping) = record_under(listed, facts, id) {
+    if let Some(mapping) = facts.record(id) {
         stack.push(Stale {
             id,
             first: mapping.place.first_page(),
@@ -163,21 +151,15 @@ fn push_place(
 }
 
 /// The pages of all records that stand at these places join what is stale.
-fn push_places(
-    stack: &mut Vec<Stale>,
-    own: &OwnPlaces,
-    listed: &Places,
-    facts: &Facts,
-) -> Result<(), AllocError>
-    requires aligned { AreAligned (own_list own.now) }
-    requires listed { AreListed (state_of_facts facts.now) listed.now }
+fn push_places(stack: &mut Vec<Stale>, own: &OwnPlaces, facts: &Facts) -> Result<(), AllocError>
+    requires { AreAligned (own_list own.now) }
     ensures { OnOk result ((r : Record) → Holds (state_of_facts facts.now) r → IsPlace r.place
         → stands (own_list own.now) (own_place (place_of r)) ≡ true → (page : ℕ)
         → holds r.place page ≡ true → IsPending stack.new.items r.id page) }
 {
     let mut sweep = Sweep::start();
     'places: while let Some(next) = own.next_place(0, PAGE_LIMIT, sweep) {
-        push_place(stack, listed, facts, next.place.id)?;
+        push_place(stack, facts, next.place.id)?;
         sweep = next.sweep;
     }
     Ok(())
@@ -187,19 +169,17 @@ fn push_places(
 pub(crate) fn push_space(
     stack: &mut Vec<Stale>,
     live: &Places,
-    listed: &Places,
     facts: &Facts,
     space: Space,
 ) -> Result<(), AllocError>
-    requires aligned { AllAligned live.now }
-    requires listed { AreListed (state_of_facts facts.now) listed.now }
+    requires { AllAligned live.now }
     ensures { OnOk result ((r : Record) → Holds (state_of_facts facts.now) r → IsPlace r.place
         → is_listed live.now (place_of r) ≡ true
         → same_space space r.space ≡ true → (page : ℕ) → holds r.place page ≡ true
         → IsPending stack.new.items r.id page) }
 {
     match live.own(Owner::Space(space)) {
-        Some(own) => push_places(stack, own, listed, facts),
+        Some(own) => push_places(stack, own, facts),
         None => Ok(()),
     }
 }

@@ -87,7 +87,7 @@ pub fn follow_end(
     ensures { OnOk result (Stands changes.new listed.new live.new (state_of_facts facts.now)) }
 {
     let mut stack = Vec::new(alloc);
-    push_space(&mut stack, live, listed, facts, space)?;
+    push_space(&mut stack, live, facts, space)?;
     let mut idle = SmallVec::new(alloc);
     settle(changes, live, &mut idle, &mut stack, listed, facts)?;
     list_idle(listed, facts, idle.as_slice())

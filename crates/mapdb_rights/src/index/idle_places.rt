@@ -14,7 +14,7 @@ ghost use Rattle.mapdb_rights.specs.HeldPlaces.{place_of};
 ghost use Rattle.mapdb_rights.specs.IdlePlaces.{HasIdle, HasIdleBut, IsNoted};
 ghost use Rattle.mapdb_rights.specs.Meeting.{is_named};
 
-use super::listing::{list_place, place_of, record_under};
+use super::listing::{list_place, place_of};
 use super::runs::has_some;
 use mapdb_facts::{Facts, Record, RecordId};
 use mapdb_lists::{AllChanges, Places, cached_at};
@@ -65,7 +65,7 @@ fn list_under(listed: &mut Places, facts: &Facts, id: RecordId) -> Result<(), Al
     ensures there { OnOk result ((r : Record) → (state_of_facts facts.now).record_at id ≡ Some r
         → is_listed listed.new (place_of r) ≡ true) }
 {
-    match record_under(listed, facts, id) {
+    match facts.record(id) {
         Some(mapping) => list_place(listed, place_of(&mapping)),
         None => Ok(()),
     }

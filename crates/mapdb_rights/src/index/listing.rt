@@ -1,23 +1,20 @@
 //! Which places are listed: the source of each held record, and the place of one without rights, as
-//! far as something is left to revoke there. The record itself is held beside them.
+//! far as something is left to revoke there.
 
-ghost use Rattle.std.specs.Prelude.{◌≡◌, ◌⊎◌, ◌∷◌, [], true, IfSome, None, OnOk, Some};
+ghost use Rattle.std.specs.Prelude.{◌≡◌, ◌⊎◌, ◌∷◌, [], true, OnOk, Some};
 ghost use Rattle.mapdb_fpage.specs.Place.{IsPlace};
 ghost use Rattle.mapdb_facts.specs.Facts.{state_of_facts};
 ghost use Rattle.mapdb_facts.specs.Looking.{Holds};
 ghost use Rattle.mapdb_facts.specs.Merging.{IsNamed};
 ghost use Rattle.mapdb_facts.specs.State.{State, join, said};
 ghost use Rattle.mapdb_facts.specs.WellFormed.{IsFormedRecord};
-ghost use Rattle.mapdb_facts.specs.declared.names.RecordId.{RecordId};
 ghost use Rattle.mapdb_facts.specs.declared.operations.Op.{Op};
 ghost use Rattle.mapdb_facts.specs.declared.operations.Record.{Record};
 ghost use Rattle.mapdb_lists.specs.Changes.{Cached};
-ghost use Rattle.mapdb_lists.specs.Listing.{AllAligned, IsAligned, held_record, held_with};
-ghost use Rattle.mapdb_lists.specs.Listing.{is_listed};
+ghost use Rattle.mapdb_lists.specs.Listing.{AllAligned, IsAligned, is_listed};
 ghost use Rattle.mapdb_lists.specs.declared.places.Listed.{Listed};
 ghost use Rattle.mapdb_rights.specs.Following.{AreListed, WereListed};
-ghost use Rattle.mapdb_rights.specs.HeldPlaces.{AreHeldOf, AreOfHeld, HasSource, place_of};
-ghost use Rattle.mapdb_rights.specs.HeldPlaces.{source_of};
+ghost use Rattle.mapdb_rights.specs.HeldPlaces.{AreOfHeld, HasSource, place_of, source_of};
 ghost use Rattle.mapdb_rights.specs.IdlePlaces.{HasIdle, HasIdleBut};
 ghost use Rattle.mapdb_rights.specs.Revoked.{IsRevoked};
 
@@ -64,14 +61,12 @@ pub(crate) fn list_place(listed: &mut Places, place: Listed) -> Result<(), Alloc
         → is_listed listed.new other ≡ true) }
     ensures no_more { OnOk result ((other : Listed) → is_listed listed.new other ≡ true
         → (other ≡ place) ⊎ (is_listed listed.old other ≡ true)) }
-    ensures records { (id : RecordId) → held_record listed.new id ≡ held_record listed.old id }
 {
     listed.insert(place)?;
     Ok(())
 }
 
-/// Lists the source of a record for its parent, which may be held or not. The record is held under
-/// its name.
+/// Lists the source of a record for its parent, which may be held or not.
 fn list_source(listed: &mut Places, mapping: &Record) -> Result<(), AllocError>
     requires formed { IsFormedRecord mapping.now }
     requires aligned { AllAligned listed.old }
@@ -81,10 +76,7 @@ fn list_source(listed: &mut Places, mapping: &Record) -> Result<(), AllocError>
         → is_listed listed.new other ≡ true) }
     ensures no_more { OnOk result ((other : Listed) → is_listed listed.new other ≡ true
         → (other ≡ source_of mapping.now) ⊎ (is_listed listed.old other ≡ true)) }
-    ensures records { OnOk result ((id : RecordId) → held_record listed.new id
-        ≡ held_with listed.old mapping.now id) }
 {
-    listed.hold(mapping)?;
     list_place(listed, source_of(mapping))
 }
 
@@ -99,8 +91,6 @@ fn list_held(listed: &mut Places, facts: &Facts, id: RecordId) -> Result<(), All
     ensures kept { OnOk result ((other : Listed) → is_listed listed.old other ≡ true
         → is_listed listed.new other ≡ true) }
     ensures held { OnOk result (AreOfHeld (state_of_facts facts.now) listed.new) }
-    ensures records { OnOk result ((r : Record) → (state_of_facts facts.now).record_at id ≡ Some r
-        → (other : RecordId) → held_record listed.new other ≡ held_with listed.old r other) }
     ensures held_named { IsNamed (state_of_facts facts.now) }
     ensures held_formed { (r : Record) → Holds (state_of_facts facts.now) r → IsFormedRecord r }
 {
@@ -115,17 +105,15 @@ fn list_held(listed: &mut Places, facts: &Facts, id: RecordId) -> Result<(), All
 fn list_parent(listed: &mut Places, facts: &Facts, parent: RecordId) -> Result<(), AllocError>
     requires aligned { AllAligned listed.old }
     requires held { AreOfHeld (state_of_facts facts.now) listed.old }
-    requires named { IsNamed (state_of_facts facts.now) }
-    requires records { AreHeldOf (state_of_facts facts.now) listed.old }
     ensures aligned { OnOk result (AllAligned listed.new) }
-    ensures there { OnOk result ((p : Record) → held_record listed.old parent ≡ Some p
+    ensures there { OnOk result ((p : Record)
+        → (state_of_facts facts.now).record_at parent ≡ Some p
         → IsRevoked (state_of_facts facts.now) p → is_listed listed.new (place_of p) ≡ true) }
     ensures kept { OnOk result ((other : Listed) → is_listed listed.old other ≡ true
         → is_listed listed.new other ≡ true) }
     ensures held { OnOk result (AreOfHeld (state_of_facts facts.now) listed.new) }
-    ensures records { (id : RecordId) → held_record listed.new id ≡ held_record listed.old id }
 {
-    match listed.record(parent) {
+    match facts.record(parent) {
         Some(mapping) if is_revoked(facts, &mapping) => list_place(listed, place_of(&mapping)),
         _ => Ok(()),
     }
@@ -150,11 +138,10 @@ pub(crate) fn list_came(
     Ok(())
 }
 
-/// Lists the source of each held record, where none was held before.
+/// Lists the source of each held record.
 pub(crate) fn list_sources(listed: &mut Places, facts: &Facts) -> Result<(), AllocError>
     requires aligned { AllAligned listed.old }
     requires held { AreOfHeld (state_of_facts facts.now) listed.old }
-    requires none { (id : RecordId) → held_record listed.old id ≡ None }
     ensures listed { OnOk result (AreListed (state_of_facts facts.now) listed.new) }
     ensures all { OnOk result ((r : Record) → Holds (state_of_facts facts.now) r
         → HasSource listed.new r) }
@@ -163,15 +150,4 @@ pub(crate) fn list_sources(listed: &mut Places, facts: &Facts) -> Result<(), All
         list_source(listed, &mapping)?;
     }
     Ok(())
-}
-
-/// The record that is held under a name, where there is one, as the facts have it: what is kept
-/// here is found at once.
-pub(crate) fn record_under(listed: &Places, facts: &Facts, id: RecordId) -> Option<Record>
-    requires { AreListed (state_of_facts facts.now) listed.now }
-    ensures held { result ≡ (state_of_facts facts.now).record_at id }
-    ensures named { IfSome result (λ r. r.id ≡ id) }
-    ensures formed { IfSome result IsFormedRecord }
-{
-    listed.record(id)
 }

@@ -44,7 +44,7 @@ impl RightsIndex {
         let mut names = SmallVec::new(self.alloc);
         add_names(&mut names, &self.live, owner, part)?;
         add_names(&mut names, &self.listed, owner, part)?;
-        let found = all_sharing(self.alloc, &mut names, &self.listed, facts, owner, part)?;
+        let found = all_sharing(self.alloc, &mut names, facts, owner, part)?;
         Ok(Some(found))
     }
 
@@ -72,7 +72,7 @@ impl RightsIndex {
         let holder = Owner::Space(space);
         let mut names = SmallVec::new(self.alloc);
         add_names(&mut names, &self.live, holder, part)?;
-        let found = all_sharing(self.alloc, &mut names, &self.listed, facts, holder, part)?;
+        let found = all_sharing(self.alloc, &mut names, facts, holder, part)?;
         Ok(Some(found))
     }
 
@@ -100,7 +100,7 @@ impl RightsIndex {
         let parent = Owner::Record(parent);
         let mut names = SmallVec::new(self.alloc);
         add_names(&mut names, &self.listed, parent, part)?;
-        let found = all_sharing(self.alloc, &mut names, &self.listed, facts, parent, part)?;
+        let found = all_sharing(self.alloc, &mut names, facts, parent, part)?;
         Ok(Some(found))
     }
 }

@@ -15,7 +15,7 @@ pub struct RightsIndex {
     /// The rights of each record from page to page, with frames.
     pub(crate) changes: AllChanges,
     /// The sources of held records, and the places of those without rights, but for what is
-    /// revoked; and the records by name.
+    /// revoked.
     pub(crate) listed: Places,
     /// The places of the records with a right at some page.
     pub(crate) live: Places,
@@ -42,7 +42,7 @@ impl RightsIndex {
     ghost use Rattle.mapdb_facts.specs.Facts.{state_of_facts};
     ghost use Rattle.mapdb_facts.specs.State.{State, nothing};
     ghost use Rattle.mapdb_facts.specs.WellFormed.{is_formed};
-    ghost use Rattle.mapdb_lists.specs.Listing.{held_record, is_listed};
+    ghost use Rattle.mapdb_lists.specs.Listing.{is_listed};
     ghost use Rattle.mapdb_lists.specs.declared.places.Listed.{Listed};
     ghost use Rattle.mapdb_rights.specs.PageRights.{pair_at};
     ghost use Rattle.mapdb_rights.specs.Right.{rights_at};
@@ -131,8 +131,7 @@ impl RightsIndex {
         ensures memory { OnErr result (self.new.absent ≡ true) }
         ensures nothing_kept { OnErr result ((self.new.changes.own.entries ≡ [])
             × ((e : Listed) → is_listed self.new.listed e ≡ false)
-            × ((e : Listed) → is_listed self.new.live e ≡ false)
-            × ((id : RecordId) → held_record self.new.listed id ≡ None)) }
+            × ((e : Listed) → is_listed self.new.live e ≡ false)) }
         ensures absent { self.old.absent ≡ true → (result ≡ Ok tt) × (self.new ≡ self.old) }
     {
         if self.absent {

@@ -72,7 +72,6 @@ fn settle_run(
         live,
         idle,
         changes,
-        listed,
         facts,
         run,
         next.change.rights,
@@ -130,7 +129,7 @@ fn settle_next(
     if stale.first >= stale.end {
         return Ok(());
     }
-    let next = step_at(changes, listed, facts, stale.id, stale.first);
+    let next = step_at(changes, facts, stale.id, stale.first);
     let end = stale.end.min(next.end);
     keep_rest(stack, stale, end)?;
     let run = Stale {

@@ -6,17 +6,18 @@ ghost use Rattle.std.specs.List.Sorted.{IsStrictlySortedBy};
 ghost use Rattle.mapdb_fpage.specs.Place.{page_total};
 ghost use Rattle.mapdb_facts.specs.Facts.{records_of_facts, state_of_facts};
 ghost use Rattle.mapdb_facts.specs.Kept.{id_cmp};
+ghost use Rattle.mapdb_facts.specs.Looking.{Holds};
+ghost use Rattle.mapdb_facts.specs.Merging.{IsNamed};
 ghost use Rattle.mapdb_facts.specs.WellFormed.{IsFormedRecord};
 ghost use Rattle.mapdb_facts.specs.declared.names.RecordId.{RecordId};
+ghost use Rattle.mapdb_facts.specs.declared.operations.Record.{Record};
 ghost use Rattle.mapdb_lists.specs.Listing.{AllAligned, is_listed, meets};
 ghost use Rattle.mapdb_lists.specs.OwnPlaces.{AreAligned, own_list, own_meets, stands};
 ghost use Rattle.mapdb_lists.specs.declared.own_places.OwnPlace.{OwnPlace};
 ghost use Rattle.mapdb_lists.specs.declared.places.Listed.{Listed};
 ghost use Rattle.mapdb_rights.specs.AllBut.{IsAllBut};
-ghost use Rattle.mapdb_rights.specs.Following.{AreListed};
 ghost use Rattle.mapdb_rights.specs.Meeting.{IsUnnamed, is_named, record_if, shares_part};
 
-use super::listing::record_under;
 use mapdb_facts::{Facts, Record, RecordId};
 use mapdb_fpage::Fpage;
 use mapdb_lists::{OwnPlaces, Owner, Places, Sweep};
@@ -91,18 +92,11 @@ fn shares(owner: Owner, part: &Fpage, mapping: &Record) -> bool
 }
 
 /// The record of a name, where it is the owner's and shares pages with the place.
-fn record_sharing(
-    listed: &Places,
-    facts: &Facts,
-    owner: Owner,
-    part: &Fpage,
-    id: RecordId,
-) -> Option<Record>
-    requires { AreListed (state_of_facts facts.now) listed.now }
+fn record_sharing(facts: &Facts, owner: Owner, part: &Fpage, id: RecordId) -> Option<Record>
     ensures { result
         ≡ record_if (shares_part owner part.now) ((state_of_facts facts.now).record_at id) }
 {
-    match record_under(listed, facts, id) {
+    match facts.record(id) {
         Some(mapping) if shares(owner, part, &mapping) => Some(mapping),
         _ => None,
     }
@@ -113,19 +107,17 @@ fn record_sharing(
 fn named_sharing(
     alloc: Global,
     names: &[RecordId],
-    listed: &Places,
     facts: &Facts,
     owner: Owner,
     part: &Fpage,
 ) -> Result<Vec<Record>, AllocError>
-    requires { AreListed (state_of_facts facts.now) listed.now }
     ensures { IfOk result (λ found. found.items ≡ filter_map
         (λ id. record_if (shares_part owner part.now) ((state_of_facts facts.now).record_at id))
         names.now) }
 {
     let mut found = Vec::new(alloc);
     for id in names {
-        if let Some(mapping) = record_sharing(listed, facts, owner, part, *id) {
+        if let Some(mapping) = record_sharing(facts, owner, part, *id) {
             found.push(mapping)?;
         }
     }
@@ -137,17 +129,17 @@ fn named_sharing(
 pub(crate) fn all_sharing(
     alloc: Global,
     names: &mut SmallVec<RecordId, 4>,
-    listed: &Places,
     facts: &Facts,
     owner: Owner,
     part: &Fpage,
 ) -> Result<Vec<Record>, AllocError>
-    requires { AreListed (state_of_facts facts.now) listed.now }
+    requires named { IsNamed (state_of_facts facts.now) }
+    requires formed { (r : Record) → Holds (state_of_facts facts.now) r → IsFormedRecord r }
     ensures sharing { IfOk result (λ found.
         IsAllBut (IsUnnamed (state_of_facts facts.now) names.old.items owner part.now)
         (filter (shares_part owner part.now) (records_of_facts facts.now)) found.items) }
     ensures formed { IfOk result (λ found. All IsFormedRecord found.items) }
 {
     put_in_order(names);
-    named_sharing(alloc, names.as_slice(), listed, facts, owner, part)
+    named_sharing(alloc, names.as_slice(), facts, owner, part)
 }

@@ -8,14 +8,12 @@ ghost use Rattle.mapdb_facts.specs.Facts.{state_of_facts};
 ghost use Rattle.mapdb_facts.specs.Names.{is_root};
 ghost use Rattle.mapdb_facts.specs.WellFormed.{IsFormedRecord};
 ghost use Rattle.mapdb_lists.specs.Changes.{PageChanges};
-ghost use Rattle.mapdb_rights.specs.Following.{AreListed};
 ghost use Rattle.mapdb_rights.specs.Stepping.{IsGiven, IsStep};
 
-use super::listing::record_under;
 use crate::sources::source_of;
 use mapdb_facts::{Facts, Record, RecordId};
 use mapdb_fpage::{PAGE_LIMIT, Rights};
-use mapdb_lists::{AllChanges, Change, Places, Stretch, stretch_at};
+use mapdb_lists::{AllChanges, Change, Stretch, stretch_at};
 
 /// What is cached of a record at a page, what follows there from its parent, and how far both go
 /// on.
@@ -96,21 +94,14 @@ fn child_given(changes: &AllChanges, facts: &Facts, mapping: &Record, page: u64)
 }
 
 /// What follows from a record's parent at a page, and how far that goes on.
-fn given_at(
-    changes: &AllChanges,
-    listed: &Places,
-    facts: &Facts,
-    id: RecordId,
-    page: u64,
-) -> Stretch
-    requires page { page < PAGE_LIMIT }
-    requires listed { AreListed (state_of_facts facts.now) listed.now }
+fn given_at(changes: &AllChanges, facts: &Facts, id: RecordId, page: u64) -> Stretch
+    requires { page < PAGE_LIMIT }
     ensures { IsGiven (state_of_facts facts.now) changes.now.own.entries id page result }
 {
     if id.is_root() {
         return root_given(facts, id, page);
     }
-    let Some(mapping) = record_under(listed, facts, id) else {
+    let Some(mapping) = facts.record(id) else {
         return Stretch::none_until(PAGE_LIMIT);
     };
     if !mapping.place.holds(page) {
@@ -123,19 +114,12 @@ fn given_at(
 }
 
 /// What is cached of a record at a page, and what follows there from its parent.
-pub(crate) fn step_at(
-    changes: &AllChanges,
-    listed: &Places,
-    facts: &Facts,
-    id: RecordId,
-    page: u64,
-) -> Step
-    requires page { page < PAGE_LIMIT }
-    requires listed { AreListed (state_of_facts facts.now) listed.now }
+pub(crate) fn step_at(changes: &AllChanges, facts: &Facts, id: RecordId, page: u64) -> Step
+    requires { page < PAGE_LIMIT }
     ensures { IsStep (state_of_facts facts.now) changes.now.own.entries id page result }
 {
     let own = stretch_at(changes, id, page);
-    let given = given_at(changes, listed, facts, id, page);
+    let given = given_at(changes, facts, id, page);
     Step {
         old: own.change,
         change: given.change,

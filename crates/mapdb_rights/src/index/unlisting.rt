@@ -13,7 +13,7 @@ ghost use Rattle.mapdb_rights.specs.Following.{AreListed};
 ghost use Rattle.mapdb_rights.specs.IdlePlaces.{HasIdle};
 ghost use Rattle.mapdb_rights.specs.Revoked.{IsRevoked};
 
-use super::listing::{place_of, record_under, source_of};
+use super::listing::{place_of, source_of};
 use mapdb_facts::{Facts, Op, Record, RecordId, Revocation};
 use mapdb_fpage::{PAGE_LIMIT, Rights};
 use mapdb_lists::{Owner, Places, Sweep};
@@ -70,11 +70,14 @@ fn unlist_parent(listed: &mut Places, facts: &Facts, id: RecordId)
     ensures idle { (cached : Cached) → HasIdle (state_of_facts facts.now) cached listed.old
         → HasIdle (state_of_facts facts.now) cached listed.new }
 {
-    let Some(mapping) = record_under(listed, facts, id) else {
+    if !is_childless(listed, id) {
+        return;
+    }
+    let Some(mapping) = facts.record(id) else {
         return;
     };
     if is_revoked(facts, &mapping) {
-        unlist_place(listed, &mapping);
+        listed.remove(place_of(&mapping));
     }
 }
 
@@ -86,7 +89,7 @@ pub(crate) fn unlist(listed: &mut Places, facts: &Facts, id: RecordId)
     ensures idle { (cached : Cached) → HasIdle (state_of_facts facts.now) cached listed.old
         → HasIdle (state_of_facts facts.now) cached listed.new }
 {
-    let Some(mapping) = record_under(listed, facts, id) else {
+    let Some(mapping) = facts.record(id) else {
         return;
     };
     if !is_revoked(facts, &mapping) {

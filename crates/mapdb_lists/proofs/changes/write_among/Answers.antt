@@ -9,7 +9,7 @@ use Rattle.mapdb_lists.specs.Changes.{IsRewritten, change_in}
 use Rattle.mapdb_lists.specs.OwnChanges.{own_change}
 use Rattle.mapdb_lists.proofs.ChangeLemmas.RecordChanges.{written_changed, written_new}
 use Rattle.mapdb_lists.proofs.Lists.Results.{on_ok}
-use Rattle.mapdb_lists.proofs.NameLemmas.NamedEntries.{found_at, found_nowhere, given_at, place_within}
+use Rattle.mapdb_facts.proofs.NameLemmas.NamedEntries.{found_at, found_nowhere, given_at, place_within}
 use Rattle.mapdb_lists.proofs.changes.write_among.Goals as goal
 
 pub index_mut-requires : goal.index_mut-requires

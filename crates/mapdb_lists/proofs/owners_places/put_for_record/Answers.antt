@@ -9,7 +9,7 @@ use Rattle.mapdb_lists.specs.declared.own_places.OwnPlaces.{OwnPlaces}
 use Rattle.mapdb_lists.specs.Listing.{places_in}
 use Rattle.mapdb_lists.specs.OwnPlaces.{place_cmp, stands}
 use Rattle.mapdb_lists.proofs.Lists.Results.{on_ok}
-use Rattle.mapdb_lists.proofs.NameLemmas.NamedEntries.{found_at, found_nowhere, given_at, place_within}
+use Rattle.mapdb_facts.proofs.NameLemmas.NamedEntries.{found_at, found_nowhere, given_at, place_within}
 use Rattle.mapdb_lists.proofs.owners_places.put_for_record.Goals as goal
 
 pub index_mut-requires : goal.index_mut-requires

@@ -5,7 +5,7 @@ use Rattle.std.proofs.lemmas.Option.{slice_get_read}
 use Rattle.mapdb_facts.specs.Names.{same_id}
 use Rattle.mapdb_facts.specs.declared.names.RecordId.{RecordId}
 use Rattle.mapdb_facts.proofs.Lists.SameNames.{same_id_itself}
-use Rattle.mapdb_lists.proofs.NameLemmas.NamedEntries.{found_at, found_nowhere, given_at, place_within}
+use Rattle.mapdb_facts.proofs.NameLemmas.NamedEntries.{found_at, found_nowhere, given_at, place_within}
 use Rattle.mapdb_lists.proofs.PlaceLemmas.LessPlaces.{removed_none, removed_own}
 use Rattle.mapdb_lists.proofs.owners_places.remove_for_record.Goals as goal
 

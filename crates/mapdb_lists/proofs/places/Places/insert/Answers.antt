@@ -8,8 +8,8 @@ use Rattle.mapdb_lists.proofs.PlaceLemmas.OwnersPlaces.{put_among}
 use Rattle.mapdb_lists.proofs.Lists.Results.{on_ok}
 use Rattle.mapdb_lists.proofs.places.Places.insert.Goals as goal
 
-pub returns-clause-listed : goal.returns-clause-listed
-returns-clause-listed c =
+pub returns : goal.returns
+returns c =
     let own = c.args.self.now.own.entries in
     on_ok c.put.result
     (λ h. put_among own c.put.new.self.entries c.args.entry h.own h.given

@@ -10,8 +10,8 @@ use Rattle.mapdb_rights.specs.HeldPlaces.{source_of}
 use Rattle.mapdb_rights.specs.Pending.{share}
 use Rattle.mapdb_rights.proofs.index.children.push_children.Goals as goal
 
-pub push_sources-requires-clause-aligned : goal.push_sources-requires-clause-aligned
-push_sources-requires-clause-aligned c = own_aligned c.args.listed.now (owners.Record c.args.parent) (own_list c.in-Some.own.now) (sym c.in-Some.ensures) c.requires.aligned
+pub push_sources-requires : goal.push_sources-requires
+push_sources-requires c = own_aligned c.args.listed.now (owners.Record c.args.parent) (own_list c.in-Some.own.now) (sym c.in-Some.ensures) c.requires
 
 pub returns-in-Some-clause-stale : goal.returns-in-Some-clause-stale
 returns-in-Some-clause-stale c =

@@ -12,7 +12,7 @@ returns-in_ok-push-clause-kept c id page h = rw c.in_ok-push.ensures.items (pend
 
 pub returns-in_ok-push-clause-stale : goal.returns-in_ok-push-clause-stale
 returns-in_ok-push-clause-stale c r held page inside =
-    let one = some_same c.in-Some.mapping r (sym c.in-Some.is ∙ c.record_under.ensures.held ∙ held) in
+    let one = some_same c.in-Some.mapping r (sym c.in-Some.is ∙ c.record.ensures.held ∙ held) in
     rw c.in_ok-push.ensures.items (pending_last _ _ c.args.id page
     ((λ i. same_id c.args.id c.args.id && (nat_le (c.first_page.ensures.page i) page && nat_lt page (c.end.ensures.end i)))
     ∙ (λ i. same_id c.args.id c.args.id && holds (one i).place page)

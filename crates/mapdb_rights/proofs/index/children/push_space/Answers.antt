@@ -8,8 +8,8 @@ use Rattle.mapdb_lists.proofs.PlaceLemmas.OwnersPlaces.{own_aligned, there}
 use Rattle.mapdb_rights.specs.HeldPlaces.{place_of}
 use Rattle.mapdb_rights.proofs.index.children.push_space.Goals as goal
 
-pub push_places-requires-clause-aligned : goal.push_places-requires-clause-aligned
-push_places-requires-clause-aligned c = own_aligned c.args.live.now (owners.Space c.args.space) (own_list c.in-Some.own.now) (sym c.in-Some.ensures) c.requires.aligned
+pub push_places-requires : goal.push_places-requires
+push_places-requires c = own_aligned c.args.live.now (owners.Space c.args.space) (own_list c.in-Some.own.now) (sym c.in-Some.ensures) c.requires
 
 pub returns-in-Some : goal.returns-in-Some
 returns-in-Some c =

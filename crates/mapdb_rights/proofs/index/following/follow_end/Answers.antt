@@ -19,10 +19,7 @@ use Rattle.mapdb_rights.proofs.Settling.LiveRecords.{live_later}
 use Rattle.mapdb_rights.proofs.index.following.follow_end.Goals as goal
 
 pub push_space-requires : goal.push_space-requires
-push_space-requires c = record {
-  aligned = c.requires.stood.stood.shows.live_there.listed.aligned;
-  listed = listed_by_end (state_of_facts c.args.facts.now) c.requires.stood.before c.args.space c.args.listed.now c.requires.stood.is c.requires.stood.stood.listed_there;
-}
+push_space-requires c = c.requires.stood.stood.shows.live_there.listed.aligned
 
 pub settle-requires-clause-listed : goal.settle-requires-clause-listed
 settle-requires-clause-listed c =

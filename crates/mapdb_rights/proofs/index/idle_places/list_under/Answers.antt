@@ -21,17 +21,17 @@ pub returns-in-Some-clause-listed : goal.returns-in-Some-clause-listed
 returns-in-Some-clause-listed c =
     let S : State = state_of_facts c.args.facts.now in
     let m = c.in-Some.mapping in
-    let own : Holds S m = ap S.record_at c.in-Some.ensures.named ∙ sym c.record_under.ensures.held ∙ c.in-Some.is in
+    let own : Holds S m = ap S.record_at c.in-Some.ensures.named ∙ sym c.record.ensures.held ∙ c.in-Some.is in
     let done = c.list_place.ensures in
     on_both c.list_place.result
     (λ (aligned : AllAligned c.list_place.new.listed) (more : Adds c.args.listed.now c.list_place.new.listed c.place_of.result).
     listed_with_place S c.args.listed.now c.list_place.new.listed m own aligned more.0
-    (λ e has. subst (λ (p : Listed). (e ≡ p) ⊎ (is_listed c.args.listed.now e ≡ true)) c.place_of.ensures.is (more.1 e has)) done.records c.requires)
+    (λ e has. subst (λ (p : Listed). (e ≡ p) ⊎ (is_listed c.args.listed.now e ≡ true)) c.place_of.ensures.is (more.1 e has)) c.requires)
     done.aligned (on_both c.list_place.result (λ kept no_more. (kept, no_more)) done.kept done.no_more)
 
 pub returns-in-Some-clause-there : goal.returns-in-Some-clause-there
 returns-in-Some-clause-there c =
     on_ok c.list_place.result
-    (λ there r at. subst (λ (x : Record). is_listed c.list_place.new.listed (place_of x) ≡ true) (some_same c.in-Some.mapping r (sym c.in-Some.is ∙ c.record_under.ensures.held ∙ at))
+    (λ there r at. subst (λ (x : Record). is_listed c.list_place.new.listed (place_of x) ≡ true) (some_same c.in-Some.mapping r (sym c.in-Some.is ∙ c.record.ensures.held ∙ at))
     (subst (λ (e : Listed). is_listed c.list_place.new.listed e ≡ true) c.place_of.ensures.is there))
     c.list_place.ensures.there

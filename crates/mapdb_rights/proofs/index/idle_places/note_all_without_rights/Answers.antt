@@ -1,4 +1,4 @@
-use Rattle.std.proofs.Common.{List, ◌∷◌, inl, inr, subst}
+use Rattle.std.proofs.Common.{List, inl, inr, subst}
 use Rattle.mapdb_facts.specs.Records.{IsAmong}
 use Rattle.mapdb_facts.specs.declared.operations.Record.{Record}
 use Rattle.mapdb_lists.specs.Changes.{cached_in}

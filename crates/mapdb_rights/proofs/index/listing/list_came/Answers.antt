@@ -1,9 +1,7 @@
-use Rattle.std.proofs.Common.{◌∙◌, sym}
 use Rattle.mapdb_facts.specs.Facts.{state_of_facts}
 use Rattle.mapdb_facts.specs.State.{said}
 use Rattle.mapdb_facts.specs.declared.operations.Op.TheVariants.{Born}
 use Rattle.mapdb_rights.proofs.Settling.Followed.{listed_by_record, of_held_on, source_on}
-use Rattle.mapdb_rights.proofs.Settling.HeldRecords.{records_by_record}
 use Rattle.mapdb_rights.proofs.Settling.IdleRecords.{idle_by_record}
 use Rattle.mapdb_rights.proofs.index.listing.list_came.Goals as goal
 
@@ -17,10 +15,6 @@ pub list_parent-requires : goal.list_parent-requires
 list_parent-requires c = record {
   aligned = c.in_ok-list_held.ensures.aligned;
   held = c.in_ok-list_held.ensures.held;
-  named = c.in_ok-list_held.ensures.held_named;
-  records = λ id r at.
-      sym (records_by_record c.args.listed.now c.list_held.new.listed (state_of_facts c.args.facts.now) c.requires.before c.args.mapping.now c.requires.is
-      c.in_ok-list_held.ensures.held_named c.in_ok-list_held.ensures.records c.requires.listed_there.by_name id) ∙ at;
 }
 
 pub returns-clause-listed : goal.returns-clause-listed
@@ -29,11 +23,9 @@ returns-clause-listed c =
     let there = c.requires.listed_there in
     let held = c.in_ok-list_held.ensures in
     let more = c.in_ok-list_parent.ensures in
-    let by_name = records_by_record c.args.listed.now c.list_held.new.listed S c.requires.before c.args.mapping.now c.requires.is held.held_named held.records there.by_name in
     listed_by_record c.args.listed.now c.list_parent.new.listed (λ e has. more.kept e (held.kept e has))
     S c.requires.before c.args.mapping.now c.requires.is
     (λ r at. source_on c.list_held.new.listed c.list_parent.new.listed more.kept r (held.there r at))
-    (λ id. more.records id ∙ by_name id)
     there more.aligned more.held held.held_named held.held_formed
 
 pub returns-clause-idle : goal.returns-clause-idle
@@ -41,7 +33,5 @@ returns-clause-idle c before cached is idle =
     let S = state_of_facts c.args.facts.now in
     let held = c.in_ok-list_held.ensures in
     let more = c.in_ok-list_parent.ensures in
-    let by_name = records_by_record c.args.listed.now c.list_held.new.listed S c.requires.before c.args.mapping.now c.requires.is held.held_named held.records c.requires.listed_there.by_name in
     idle_by_record c.args.listed.now c.list_parent.new.listed (λ e has. more.kept e (held.kept e has)) S before c.args.mapping.now is
-    (λ p at revoked. more.there p (by_name c.args.mapping.now.parent ∙ at) revoked)
-    cached idle
+    more.there cached idle

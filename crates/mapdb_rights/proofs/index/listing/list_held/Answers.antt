@@ -2,7 +2,6 @@ use Rattle.std.proofs.Common.{ap, inr, sym, subst, ◌∙◌}
 use Rattle.mapdb_facts.specs.Facts.{state_of_facts}
 use Rattle.mapdb_facts.specs.Looking.{Holds}
 use Rattle.mapdb_facts.specs.declared.operations.Record.{Record}
-use Rattle.mapdb_lists.specs.Listing.{held_with}
 use Rattle.mapdb_lists.proofs.Lists.Results.{on_ok}
 use Rattle.mapdb_rights.specs.HeldPlaces.{HasSource}
 use Rattle.mapdb_facts.proofs.Lists.SameNames.{some_same}
@@ -14,12 +13,6 @@ returns-in-Some-clause-there c =
     on_ok c.list_source.result
     (λ there r at. subst (λ (s : Record). HasSource c.list_source.new.listed s) (some_same c.in-Some.mapping r (sym c.in-Some.is ∙ c.record.ensures.held ∙ at)) there)
     c.list_source.ensures.there
-
-pub returns-in-Some-clause-records : goal.returns-in-Some-clause-records
-returns-in-Some-clause-records c =
-    on_ok c.list_source.result
-    (λ more r at other. more other ∙ ap (λ (s : Record). held_with c.args.listed.now s other) (some_same c.in-Some.mapping r (sym c.in-Some.is ∙ c.record.ensures.held ∙ at)))
-    c.list_source.ensures.records
 
 pub returns-in-Some-clause-held : goal.returns-in-Some-clause-held
 returns-in-Some-clause-held c =

@@ -1,4 +1,4 @@
-use Rattle.std.proofs.Common.{◌≡◌, Some, ap, sym, ◌∙◌, inl, inr}
+use Rattle.std.proofs.Common.{ap, sym, ◌∙◌, inl, inr}
 use Rattle.mapdb_facts.specs.Facts.{state_of_facts}
 use Rattle.mapdb_facts.specs.Looking.{Holds}
 use Rattle.mapdb_facts.specs.State.{State}
@@ -8,8 +8,7 @@ use Rattle.mapdb_rights.proofs.index.listing.list_parent.Goals as goal
 pub returns-in-Some-clause-held : goal.returns-in-Some-clause-held
 returns-in-Some-clause-held c =
     let S : State = state_of_facts c.args.facts.now in
-    let at : S.record_at c.args.parent ≡ Some c.in-Some.mapping = c.requires.records c.args.parent c.in-Some.mapping (sym c.record.ensures ∙ c.in-Some.is) in
-    let own : Holds S c.in-Some.mapping = ap S.record_at (c.requires.named c.args.parent c.in-Some.mapping at) ∙ at in
+    let own : Holds S c.in-Some.mapping = ap S.record_at c.in-Some.ensures.named ∙ sym c.record.ensures.held ∙ c.in-Some.is in
     on_ok c.list_place.result
     (λ no_more e has. elim (no_more e has) [
       | inl here ↦ record { r = c.in-Some.mapping; held = own; is = inl (here ∙ c.place_of.ensures.is) }

@@ -11,15 +11,15 @@ pub returns-clause-aligned : goal.returns-clause-aligned
 returns-clause-aligned c e has =
     elim (cases_Bool (is_at (listed_cmp c.args.place) e)) [
       | inl same ↦ subst (λ (k : Listed). IsAligned k) (exact_listed c.args.place e same) c.requires.place
-      | inr other ↦ c.requires.aligned e (sym (c.in_ok-insert.ensures.listed e ∙ ap (λ (b : Bool). b || is_listed c.args.listed.now e) other) ∙ has)
+      | inr other ↦ c.requires.aligned e (sym (c.in_ok-insert.ensures e ∙ ap (λ (b : Bool). b || is_listed c.args.listed.now e) other) ∙ has)
     ]
 
 pub returns-clause-there : goal.returns-clause-there
 returns-clause-there c =
-    c.in_ok-insert.ensures.listed c.args.place ∙ ap (λ (b : Bool). b || is_listed c.args.listed.now c.args.place) (listed_itself c.args.place)
+    c.in_ok-insert.ensures c.args.place ∙ ap (λ (b : Bool). b || is_listed c.args.listed.now c.args.place) (listed_itself c.args.place)
 
 pub returns-clause-kept : goal.returns-clause-kept
-returns-clause-kept c e has = c.in_ok-insert.ensures.listed e ∙ later (is_at (listed_cmp c.args.place) e) (is_listed c.args.listed.now e) has
+returns-clause-kept c e has = c.in_ok-insert.ensures e ∙ later (is_at (listed_cmp c.args.place) e) (is_listed c.args.listed.now e) has
   where
     later : (a b : Bool) → b ≡ true → (a || b) ≡ true
     later true b h = refl
@@ -29,5 +29,5 @@ pub returns-clause-no_more : goal.returns-clause-no_more
 returns-clause-no_more c e has =
     elim (cases_Bool (is_at (listed_cmp c.args.place) e)) [
       | inl same ↦ inl (sym (exact_listed c.args.place e same))
-      | inr other ↦ inr (sym (c.in_ok-insert.ensures.listed e ∙ ap (λ (b : Bool). b || is_listed c.args.listed.now e) other) ∙ has)
+      | inr other ↦ inr (sym (c.in_ok-insert.ensures e ∙ ap (λ (b : Bool). b || is_listed c.args.listed.now e) other) ∙ has)
     ]

@@ -1,18 +1,14 @@
-use Rattle.std.proofs.Common.{◌≡◌, List, ◌∷◌, Some, refl, subst, sym, inl, inr}
+use Rattle.std.proofs.Common.{List, ◌∷◌, refl, subst, sym, inl, inr}
 use Rattle.mapdb_facts.specs.Facts.{state_of_facts}
 use Rattle.mapdb_facts.specs.Looking.{Holds}
 use Rattle.mapdb_facts.specs.Records.{IsAmong}
-use Rattle.mapdb_facts.specs.State.{State}
 use Rattle.mapdb_facts.specs.declared.operations.Record.{Record}
-use Rattle.mapdb_lists.specs.Listing.{held_record}
 use Rattle.mapdb_rights.specs.HeldPlaces.{HasSource}
 use Rattle.mapdb_rights.proofs.Settling.Followed.{source_on, of_held_with}
-use Rattle.mapdb_rights.proofs.Settling.HeldRecords.{held_here, held_of_more, held_still}
 use Rattle.mapdb_rights.proofs.index.listing.list_sources.Goals as goal
 
 pub loop-mapping-preserved : goal.loop-mapping-preserved
 loop-mapping-preserved c =
-    let S : State = state_of_facts c.args.facts.now in
     let r = c.in-Some.mapping in
     let later = c.next.new.self in
     let next = c.in-Some.ensures.steps in
@@ -30,13 +26,4 @@ loop-mapping-preserved c =
       ];
       held = of_held_with (state_of_facts c.args.facts.now) c.loop-mapping.listed c.list_source.new.listed r (left r (inl refl))
           (λ e has. inr (c.in_ok-list_source.ensures.no_more e has)) c.loop-mapping.invariant.held;
-      sound = held_of_more S c.loop-mapping.listed c.list_source.new.listed r (left r (inl refl)) c.in_ok-list_source.ensures.records c.loop-mapping.invariant.sound;
-      records = λ s held. elim (c.loop-mapping.invariant.records s held) [
-        | inr there ↦ inr (held_still S c.loop-mapping.listed c.list_source.new.listed r (left r (inl refl)) c.in_ok-list_source.ensures.records s held there)
-        | inl among ↦ elim (subst (λ (rs : List Record). IsAmong s rs) next among) [
-          | inr more ↦ inl more
-          | inl one ↦ inr (subst (λ (x : Record). held_record c.list_source.new.listed x.id ≡ Some x) one
-              (held_here S c.loop-mapping.listed c.list_source.new.listed r (left r (inl refl)) c.in_ok-list_source.ensures.records))
-        ]
-      ];
     }

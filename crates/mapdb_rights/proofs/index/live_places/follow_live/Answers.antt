@@ -27,7 +27,7 @@ returns-then-has-clause-live c =
     let none : c.args.had_some ≡ false = grind (arith, common_steps) in
     lists_more (state_of_facts c.args.facts.now) (cached_in c.args.changes.now.own.entries) c.args.live.now c.args.run.id c.args.had_some c.requires.before
     c.list_live.result c.list_live.new.live none (c.has_some-has.ensures.some c.if-has.true)
-    done.aligned done.there done.kept done.no_more c.requires.listed.named
+    done.aligned done.there done.kept done.no_more done.held_named
 
 pub returns-clause-live : goal.returns-clause-live
 returns-clause-live c =

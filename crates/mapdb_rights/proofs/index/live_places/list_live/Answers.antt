@@ -7,5 +7,5 @@ returns-in-Some-clause-no_more c =
     on_ok c.list_place.result
     (λ no_more e has. elim (no_more e has) [
       | inr before ↦ inr before
-      | inl here ↦ inl (record { r = c.in-Some.mapping; at = sym c.record_under.ensures.held ∙ c.in-Some.is; is = here ∙ c.place_of.ensures.is })
+      | inl here ↦ inl (record { r = c.in-Some.mapping; at = sym c.record.ensures.held ∙ c.in-Some.is; is = here ∙ c.place_of.ensures.is })
     ]) c.list_place.ensures.no_more

@@ -20,7 +20,7 @@ returns-then-not-holds c =
     let S : State = state_of_facts c.args.facts.now in
     let changes : PageChanges = c.args.changes.now.own.entries in
     let child : is_root c.args.id ≡ false = sym c.is_root.ensures ∙ c.if-is_root.false in
-    let held : S.record_at c.args.id ≡ Some c.in-Some.mapping = sym c.record_under.ensures.held ∙ c.in-Some.is in
+    let held : S.record_at c.args.id ≡ Some c.in-Some.mapping = sym c.record.ensures.held ∙ c.in-Some.is in
     let limit : c.change_after.result ≤ page_limit = c.change_after.ensures.limit in
     subst (λ (given : Stretch). IsGiven S changes c.args.id c.args.page given) (sym c.none_until-then-not-holds.ensures)
     (none_given S changes c.args.id c.args.page c.change_after.result c.change_after.ensures.above limit (λ q from before.
@@ -32,9 +32,9 @@ returns-then-ended c =
     let S : State = state_of_facts c.args.facts.now in
     let changes : PageChanges = c.args.changes.now.own.entries in
     let child : is_root c.args.id ≡ false = sym c.is_root.ensures ∙ c.if-is_root.false in
-    let held : S.record_at c.args.id ≡ Some c.in-Some.mapping = sym c.record_under.ensures.held ∙ c.in-Some.is in
+    let held : S.record_at c.args.id ≡ Some c.in-Some.mapping = sym c.record.ensures.held ∙ c.in-Some.is in
     subst (λ (given : Stretch). IsGiven S changes c.args.id c.args.page given) (sym c.none_until-then-ended.ensures)
-    (none_given S changes c.args.id c.args.page page_limit c.requires.page (omega arith) (λ q from before.
+    (none_given S changes c.args.id c.args.page page_limit c.requires (omega arith) (λ q from before.
     from_ended (cached_in changes) S c.args.id q c.in-Some.mapping child held (sym c.ended.ensures ∙ c.if-ended.true)))
 
 pub returns : goal.returns

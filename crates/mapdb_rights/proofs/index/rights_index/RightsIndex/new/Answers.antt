@@ -23,8 +23,8 @@ returns c = record {
         placed = λ r held. absurd (none_some r held);
         listed = record {
           places = λ r held has. absurd (none_some r held);
-          aligned = none_aligned c.new-3.result c.new-3.ensures.no_place;
-          only = λ e has. absurd (true≢false (sym has ∙ c.new-3.ensures.no_place e));
+          aligned = none_aligned c.new-3.result c.new-3.ensures;
+          only = λ e has. absurd (true≢false (sym has ∙ c.new-3.ensures e));
         };
       };
     };
@@ -32,9 +32,8 @@ returns c = record {
       named = λ id r held. absurd (none_some r held);
       formed = λ r held. absurd (none_some r held);
       sources = λ r held. absurd (none_some r held);
-      aligned = none_aligned c.new-2.result c.new-2.ensures.no_place;
-      held = λ e has. absurd (true≢false (sym has ∙ c.new-2.ensures.no_place e));
-      by_name = c.new-2.ensures.no_record;
+      aligned = none_aligned c.new-2.result c.new-2.ensures;
+      held = λ e has. absurd (true≢false (sym has ∙ c.new-2.ensures e));
     };
     idle_there = λ r held. absurd (none_some r held);
   };

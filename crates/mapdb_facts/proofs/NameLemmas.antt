@@ -1,0 +1,4 @@
+-- Where names stand, and what their values are.
+pub mod NearWords
+pub mod NamedEntries
+pub mod NamesInOrder

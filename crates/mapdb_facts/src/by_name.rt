@@ -1,0 +1,71 @@
+//! Values by the name of a record.
+
+ghost use Rattle.std.specs.Prelude.{◌≡◌, [], Some, OnOk, OnErr};
+ghost use Rattle.std.specs.Map.{lookup};
+ghost use Rattle.std.specs.Option.{option_copied};
+ghost use Rattle.mapdb_facts.specs.Names.{same_id};
+ghost use Rattle.mapdb_facts.specs.declared.names.RecordId.{RecordId};
+ghost use Rattle.mapdb_facts.specs.NamedValues.{IsInserted};
+
+use crate::name_list::NameList;
+use crate::names::RecordId;
+use std::alloc::{AllocError, Global};
+use std::marker::Model;
+
+/// Values by the name of a record, in the order in which the names came.
+#[derive(Drop)]
+pub struct ByName<V> {
+    /// The names.
+    pub names: NameList,
+    /// Their values, in the same order.
+    pub values: Vec<V>,
+}
+
+impl<V> Model for ByName<V> {
+    ghost use Rattle.std.specs.Prelude.{◌≡◌, length};
+    ghost use Rattle.mapdb_facts.specs.NamedValues.{NamedValues, named};
+
+    ghost Value = { NamedValues V };
+
+    ghost view = { λ a. named a.names a.values.items };
+
+    ghost invariant = { λ a. length a.names ≡ length a.values.items };
+}
+
+impl<V: Drop> ByName<V> {
+    /// No values. It takes no memory.
+    pub fn new(alloc: Global) -> ByName<V>
+        ensures { result.entries ≡ [] }
+    {
+        ByName {
+            names: NameList::new(alloc),
+            values: Vec::new(alloc),
+        }
+    }
+
+    /// The value of a name, where it has one.
+    pub fn get(&self, id: RecordId) -> Option<&V>
+        ensures { option_copied result ≡ lookup (same_id id) self.now.entries }
+    {
+        match self.names.place(id) {
+            Some(at) => Some(&self.values[at]),
+            None => None,
+        }
+    }
+
+    /// Gives a name a value, in place of the one that it has. An error where memory ran out, and
+    /// then nothing has changed.
+    pub fn insert(&mut self, id: RecordId, value: V) -> Result<(), AllocError>
+        ensures ok { OnOk result (IsInserted self.old id value self.new) }
+        ensures err { OnErr result (self.new.entries ≡ self.old.entries) }
+    {
+        if let Some(at) = self.names.place(id) {
+            self.values[at] = value;
+            return Ok(());
+        }
+        self.values.reserve(1)?;
+        self.names.add(id)?;
+        self.values.push_reserved(value);
+        Ok(())
+    }
+}

@@ -1,0 +1,237 @@
+//! The records that are held, by name: each is found at once, and all are met in their order.
+
+ghost use Rattle.std.specs.Prelude.{◌≡◌, ◌↔◌, [], IfNone, IfOk, IfSome, IsSome, IsTrue, MatchOption};
+ghost use Rattle.std.specs.Prelude.{None, OnErr, OnOk, false};
+ghost use Rattle.std.specs.BTreeMap.Range.{IsLeBy};
+ghost use Rattle.std.specs.BTreeSet.{contains};
+ghost use Rattle.std.specs.Ordering.{is_lt};
+ghost use Rattle.std.specs.declared.cmp.Ordering.TheVariants.{Less};
+ghost use Rattle.mapdb_join.specs.Atoms.{Clashes, HasNone, Includes, IsBetween, IsSame, IsUnion};
+ghost use Rattle.mapdb_join.specs.Keys.{IsAbove};
+ghost use Rattle.mapdb_facts.specs.HeldRecords.{CoversAt, DifferUnder, IsClashAt, IsOrderOf};
+ghost use Rattle.mapdb_facts.specs.HeldRecords.{excludes_record, one_under};
+ghost use Rattle.mapdb_facts.specs.Kept.{has_record, id_cmp, record_in};
+ghost use Rattle.mapdb_facts.specs.declared.names.RecordId.{RecordId};
+
+use crate::by_name::ByName;
+use crate::names::RecordId;
+use crate::operations::Record;
+use std::alloc::{AllocError, Global};
+use std::collections::BTreeSet;
+use std::marker::Model;
+use std::ops::Bound;
+
+/// Records by name.
+#[derive(Drop)]
+pub struct RecordsByName {
+    by_name: ByName<Record>,
+    order: BTreeSet<RecordId>,
+    alloc: Global,
+}
+
+impl Model for RecordsByName {
+    ghost use Rattle.mapdb_facts.specs.HeldRecords.{IsOrderOf};
+    ghost use Rattle.mapdb_facts.specs.Kept.{Records};
+
+    ghost Value = { Records };
+
+    ghost view = { λ a. a.by_name.entries };
+
+    ghost invariant = { λ a. IsOrderOf a.by_name.entries a.order.keys };
+}
+
+/// The least name.
+fn first_name(order: &BTreeSet<RecordId>) -> Option<RecordId>
+    ensures none { MatchOption result
+        ((q : RecordId) → contains id_cmp order.now q ≡ false) (λ _. Unit {0}) }
+    ensures found { IfSome result (λ id. IsTrue (contains id_cmp order.now id)) }
+    ensures least { IfSome result (λ id. (q : RecordId) → IsTrue (contains id_cmp order.now q)
+        → IsLeBy id_cmp id q) }
+{
+    order.first().copied()
+}
+
+/// The least name above another.
+fn name_above(order: &BTreeSet<RecordId>, after: RecordId) -> Option<RecordId>
+    ensures none { MatchOption result
+        ((q : RecordId) → id_cmp after q ≡ Less → contains id_cmp order.now q ≡ false)
+        (λ _. Unit {0}) }
+    ensures found { IfSome result (λ id. (id_cmp after id ≡ Less)
+        × IsTrue (contains id_cmp order.now id)) }
+    ensures least { IfSome result (λ id. (q : RecordId) → id_cmp after q ≡ Less
+        → IsTrue (contains id_cmp order.now q) → IsLeBy id_cmp id q) }
+{
+    let above = (Bound::Excluded(after), Bound::Unbounded);
+    order.range(above).next().copied()
+}
+
+/// The greatest name.
+fn last_name(order: &BTreeSet<RecordId>) -> Option<RecordId>
+    ensures none { MatchOption result
+        ((q : RecordId) → contains id_cmp order.now q ≡ false) (λ _. Unit {0}) }
+    ensures found { IfSome result (λ id. IsTrue (contains id_cmp order.now id)) }
+    ensures greatest { IfSome result (λ id. (q : RecordId) → IsTrue (contains id_cmp order.now q)
+        → is_lt (id_cmp id q) ≡ false) }
+{
+    order.last().copied()
+}
+
+/// Holds a record under a name that has none. An error where memory ran out, and then nothing has
+/// changed but the order in which names are kept.
+fn add_new(
+    by_name: &mut ByName<Record>,
+    order: &mut BTreeSet<RecordId>,
+    id: RecordId,
+    mapping: Record,
+) -> Result<(), AllocError>
+    requires absent { record_in by_name.old.entries id ≡ None }
+    requires order { IsOrderOf by_name.old.entries order.old.keys }
+    ensures order { IsOrderOf by_name.new.entries order.new.keys }
+    ensures ok { OnOk result (IsUnion has_record by_name.old.entries (one_under id mapping)
+        by_name.new.entries) }
+    ensures err { OnErr result (by_name.new.entries ≡ by_name.old.entries) }
+{
+    order.insert(id)?;
+    if let Err(refused) = by_name.insert(id, mapping) {
+        order.remove(&id);
+        return Err(refused);
+    }
+    Ok(())
+}
+
+impl RecordsByName {
+    /// No records. It takes no memory.
+    pub(crate) fn new(alloc: Global) -> RecordsByName
+        ensures { result ≡ [] }
+    {
+        RecordsByName {
+            by_name: ByName::new(alloc),
+            order: BTreeSet::new(alloc),
+            alloc,
+        }
+    }
+
+    /// The record of a name, where one is held.
+    pub(crate) fn get(&self, id: RecordId) -> Option<Record>
+        ensures { result ≡ record_in self.now id }
+    {
+        self.by_name.get(id).copied()
+    }
+
+    /// The least name above another, or of all, under which a record is held.
+    pub(crate) fn next(&self, after: Option<RecordId>) -> Option<RecordId>
+        ensures none { MatchOption result
+            ((q : RecordId) → IsAbove id_cmp after q → record_in self.now q ≡ None)
+            (λ _. Unit {0}) }
+        ensures found { IfSome result (λ id. IsAbove id_cmp after id
+            × IsSome (record_in self.now id)) }
+        ensures least { IfSome result (λ id. (q : RecordId) → IsAbove id_cmp after q
+            → IsSome (record_in self.now q) → IsLeBy id_cmp id q) }
+    {
+        match after {
+            Some(id) => name_above(&self.order, id),
+            None => first_name(&self.order),
+        }
+    }
+
+    /// The greatest name under which a record is held.
+    pub(crate) fn last(&self) -> Option<RecordId>
+        ensures none { MatchOption result ((id : RecordId) → record_in self.now id ≡ None)
+            (λ _. Unit {0}) }
+        ensures found { IfSome result (λ id. IsSome (record_in self.now id)) }
+        ensures greatest { IfSome result (λ id. (q : RecordId) → IsSome (record_in self.now q)
+            → is_lt (id_cmp id q) ≡ false) }
+    {
+        last_name(&self.order)
+    }
+
+    /// Holds a record under a name that has none, or this very record. An error where memory ran
+    /// out, and then nothing has changed.
+    pub(crate) fn add(&mut self, id: RecordId, mapping: Record) -> Result<(), AllocError>
+        requires { IfSome (record_in self.old id) (λ held. held ≡ mapping) }
+        ensures ok { OnOk result (IsUnion has_record self.old (one_under id mapping) self.new) }
+        ensures err { OnErr result (self.new ≡ self.old) }
+    {
+        if self.by_name.get(id).is_some() {
+            return Ok(());
+        }
+        add_new(&mut self.by_name, &mut self.order, id, mapping)
+    }
+
+    /// Whether both hold different records under a name.
+    fn differs_at(&self, other: &RecordsByName, id: RecordId) -> bool
+        ensures { IsTrue result ↔ DifferUnder self.now other.now id }
+    {
+        match (self.get(id), other.get(id)) {
+            (Some(mine), Some(theirs)) => mine != theirs,
+            _ => false,
+        }
+    }
+
+    /// The least name under which both hold different records.
+    pub(crate) fn clash(&self, other: &RecordsByName) -> Option<RecordId>
+        ensures none { IfNone result (Clashes has_record excludes_record self.now other.now → ⊥) }
+        ensures some { IfSome result (λ id. Clashes has_record excludes_record self.now other.now
+            × IsClashAt self.now other.now id) }
+    {
+        for id in &other.order {
+            if self.differs_at(other, *id) {
+                return Some(*id);
+            }
+        }
+        None
+    }
+
+    /// Whether these hold what the other holds under a name.
+    fn covers_at(&self, other: &RecordsByName, id: RecordId) -> bool
+        ensures { IsTrue result ↔ CoversAt self.now other.now id }
+    {
+        match other.get(id) {
+            Some(theirs) => self.get(id) == Some(theirs),
+            None => true,
+        }
+    }
+
+    /// Whether these hold each record that the other holds.
+    pub(crate) fn covers(&self, other: &RecordsByName) -> bool
+        ensures { IsTrue result ↔ Includes has_record self.now other.now }
+    {
+        for id in &other.order {
+            if !self.covers_at(other, *id) {
+                return false;
+            }
+        }
+        true
+    }
+
+    /// Whether no record is held.
+    pub(crate) fn is_none(&self) -> bool
+        ensures { IsTrue result ↔ HasNone has_record self.now }
+    {
+        self.order.is_empty()
+    }
+
+    /// Holds each record that the other holds too. An error where memory ran out, and then some of
+    /// them are held.
+    pub(crate) fn merge(&mut self, other: &RecordsByName) -> Result<(), AllocError>
+        requires { Clashes has_record excludes_record self.old other.now → ⊥ }
+        ensures ok { OnOk result (IsUnion has_record self.old other.now self.new) }
+        ensures err { OnErr result (IsBetween has_record self.old other.now self.new) }
+    {
+        for id in &other.order {
+            if let Some(theirs) = other.get(*id) {
+                self.add(*id, theirs)?;
+            }
+        }
+        Ok(())
+    }
+
+    /// The same records. An error where memory ran out.
+    pub(crate) fn copy(&self) -> Result<RecordsByName, AllocError>
+        ensures { IfOk result (λ c. IsSame has_record self.now c) }
+    {
+        let mut copy = RecordsByName::new(self.alloc);
+        copy.merge(self)?;
+        Ok(copy)
+    }
+}

@@ -1,3 +1,0 @@
--- Where names stand, and what their values are.
-pub mod NearWords
-pub mod NamedEntries
