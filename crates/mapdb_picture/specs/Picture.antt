@@ -1,7 +1,7 @@
 -- The Graphviz text of what a copy holds: each space is a box, each record stands in the box of its
 -- space, and a line leads to it from the record that its pages come from. A record whose parent is
 -- not held is dashed, and so is that parent. The box of a space that has ended is grey.
-use Rattle.std.specs.Prelude.{ℕ, Bool, true, false, ◌||◌, List, [], ◌++◌, is_some, codes, decimal}
+use Rattle.std.specs.Prelude.{ℕ, Bool, ◌||◌, List, [], ◌++◌, is_some, codes, decimal}
 use Rattle.std.specs.Prelude.{flat_map, if◌then◌else◌}
 use Rattle.mapdb_facts.specs.Names.{first_space, is_root, root}
 use Rattle.mapdb_facts.specs.Records.{records_of}
@@ -14,23 +14,25 @@ use Rattle.mapdb_snapshot.specs.Cutting.{cut_names}
 use Rattle.mapdb_snapshot.specs.Snapshot.{ended_of}
 use Rattle.mapdb_picture.specs.Labels.{absent_label, record_label, root_label}
 use Rattle.mapdb_lines.specs.Shown.{name_text, space_text}
+use Rattle.mapdb_picture.specs.declared.pictures.Style.{Style}
+use Rattle.mapdb_picture.specs.declared.pictures.Style.TheVariants.{Dashed, Solid}
 
--- whether a line is solid, or dashed
-abbrev pub style_text : Bool → List ℕ
-style_text true = codes "solid"
-style_text false = codes "dashed"
+-- the name of a style
+abbrev pub style_text : Style → List ℕ
+style_text Solid = codes "solid"
+style_text Dashed = codes "dashed"
 
 -- a record, as a node
-abbrev pub node_text : RecordId → List ℕ → Bool → List ℕ
-node_text id label is_solid =
+abbrev pub node_text : RecordId → List ℕ → Style → List ℕ
+node_text id label style =
     codes "\"" ++ (name_text id ++ (codes "\" [label=\"" ++ (label ++ (codes "\", style="
-    ++ (style_text is_solid ++ codes "];")))))
+    ++ (style_text style ++ codes "];")))))
 
 -- the line from a record to one whose pages come from it
-abbrev pub edge_text : RecordId → RecordId → Bool → List ℕ
-edge_text parent id is_solid =
+abbrev pub edge_text : RecordId → RecordId → Style → List ℕ
+edge_text parent id style =
     codes "\"" ++ (name_text parent ++ (codes "\" -> \"" ++ (name_text id ++ (codes "\" [style="
-    ++ (style_text is_solid ++ codes "];\n")))))
+    ++ (style_text style ++ codes "];\n")))))
 
 -- what stands in the box of a space
 abbrev pub boxed : Space → List ℕ → List ℕ
@@ -43,9 +45,13 @@ boxed space inside =
 abbrev pub is_known : State → RecordId → Bool
 is_known S id = is_root id || is_some (S.record_at id)
 
+-- solid, or dashed where the parent is not held
+abbrev pub style_under : State → RecordId → Style
+style_under S parent = if is_known S parent then Solid else Dashed
+
 -- a record that is not held
 abbrev pub absent_line : State → RecordId → List ℕ
-absent_line S id = node_text id (absent_label S id) false ++ codes "\n"
+absent_line S id = node_text id (absent_label S id) Dashed ++ codes "\n"
 
 -- a name that is none of a held record's, as the parent of one, or with rights revoked
 abbrev pub if_absent : State → RecordId → List ℕ
@@ -54,8 +60,8 @@ if_absent S id = if is_known S id then [] else absent_line S id
 -- a record in the box of its space, and the line that leads to it: dashed where its parent is not
 -- held
 abbrev pub record_lines : State → Record → List ℕ
-record_lines S r = boxed r.space (node_text r.id (record_label S r) (is_known S r.parent))
-    ++ (if_absent S r.parent ++ edge_text r.parent r.id (is_known S r.parent))
+record_lines S r = boxed r.space (node_text r.id (record_label S r) (style_under S r.parent))
+    ++ (if_absent S r.parent ++ edge_text r.parent r.id (style_under S r.parent))
 
 -- what makes a box grey, and says why
 abbrev pub ended_mark : Space → List ℕ
@@ -69,7 +75,7 @@ ended_line space = boxed space (ended_mark space)
 
 -- the root, in the box of the first space
 abbrev pub root_line : State → List ℕ
-root_line S = boxed first_space (node_text root (root_label S) true)
+root_line S = boxed first_space (node_text root (root_label S) Solid)
 
 -- a graph of the root, of records, of names of which none is held, and of spaces that have ended
 abbrev pub graph_of : List ℕ → List ℕ → List ℕ → List ℕ → List ℕ

@@ -7,7 +7,7 @@ ghost use Rattle.mapdb_snapshot.specs.Snapshot.{ended_of};
 ghost use Rattle.mapdb_picture.specs.Picture.{absent_line, boxed, edge_text, ended_line};
 ghost use Rattle.mapdb_picture.specs.Picture.{ended_mark, graph_of, if_absent, is_known};
 ghost use Rattle.mapdb_picture.specs.Picture.{node_text, picture_text, record_lines, root_line};
-ghost use Rattle.mapdb_picture.specs.Picture.{style_text};
+ghost use Rattle.mapdb_picture.specs.Picture.{style_text, style_under};
 
 use crate::labels::{absent_label, record_label, root_label};
 use mapdb_facts::{Facts, Op, Record, RecordId, Space};
@@ -16,19 +16,31 @@ use mapdb_replica::Replica;
 use mapdb_snapshot::{cut_names, ended_spaces};
 use std::alloc::{AllocError, Global};
 
-/// Whether a line is solid, or dashed.
-fn style_text(is_solid: bool) -> &'static str
-    ensures { result.now ≡ style_text is_solid }
+/// How a line is drawn.
+#[derive(Clone, Copy, Debug, PartialEq, Eq)]
+enum Style {
+    /// The root, and a record whose parent is held.
+    Solid,
+    /// A record whose parent is not held, or one that is not held itself.
+    Dashed,
+}
+
+/// The name of a style.
+fn style_text(style: Style) -> &'static str
+    ensures { result.now ≡ style_text style }
 {
-    if is_solid { "solid" } else { "dashed" }
+    match style {
+        Style::Solid => "solid",
+        Style::Dashed => "dashed",
+    }
 }
 
 /// A record, as a node.
-fn node_text(alloc: Global, id: RecordId, label: &str, is_solid: bool) -> Result<String, AllocError>
-    ensures { IfOk result (λ text. string_bytes text ≡ node_text id label.now is_solid) }
+fn node_text(alloc: Global, id: RecordId, label: &str, style: Style) -> Result<String, AllocError>
+    ensures { IfOk result (λ text. string_bytes text ≡ node_text id label.now style) }
 {
     let name = name_text(alloc, id)?;
-    let style = style_text(is_solid);
+    let style = style_text(style);
     format!(in alloc; "\"{name}\" [label=\"{label}\", style={style}];")
 }
 
@@ -37,13 +49,13 @@ fn edge_text(
     alloc: Global,
     parent: RecordId,
     id: RecordId,
-    is_solid: bool,
+    style: Style,
 ) -> Result<String, AllocError>
-    ensures { IfOk result (λ text. string_bytes text ≡ edge_text parent id is_solid) }
+    ensures { IfOk result (λ text. string_bytes text ≡ edge_text parent id style) }
 {
     let parent = name_text(alloc, parent)?;
     let name = name_text(alloc, id)?;
-    let style = style_text(is_solid);
+    let style = style_text(style);
     format!(in alloc; "\"{parent}\" -> \"{name}\" [style={style}];\n")
 }
 
@@ -66,12 +78,23 @@ fn is_known(facts: &Facts, id: RecordId) -> bool
     id.is_root() || facts.record(id).is_some()
 }
 
+/// How a record of this parent is drawn.
+fn style_under(facts: &Facts, parent: RecordId) -> Style
+    ensures { result ≡ style_under (state_of_facts facts.now) parent }
+{
+    if is_known(facts, parent) {
+        Style::Solid
+    } else {
+        Style::Dashed
+    }
+}
+
 /// A record that is not held.
 fn absent_line(alloc: Global, facts: &Facts, id: RecordId) -> Result<String, AllocError>
     ensures { IfOk result (λ text. string_bytes text ≡ absent_line (state_of_facts facts.now) id) }
 {
     let label = absent_label(alloc, facts, id)?;
-    let mut text = node_text(alloc, id, label.as_str(), false)?;
+    let mut text = node_text(alloc, id, label.as_str(), Style::Dashed)?;
     text.push_str("\n")?;
     Ok(text)
 }
@@ -92,12 +115,12 @@ fn record_lines(alloc: Global, facts: &Facts, mapping: &Record) -> Result<String
     ensures { IfOk result (λ text. string_bytes text
         ≡ record_lines (state_of_facts facts.now) mapping.now) }
 {
-    let is_solid = is_known(facts, mapping.parent);
+    let style = style_under(facts, mapping.parent);
     let label = record_label(alloc, facts, mapping)?;
-    let node = node_text(alloc, mapping.id, label.as_str(), is_solid)?;
+    let node = node_text(alloc, mapping.id, label.as_str(), style)?;
     let space = boxed(alloc, mapping.space, node.as_str())?;
     let parent = if_absent(alloc, facts, mapping.parent)?;
-    let edge = edge_text(alloc, mapping.parent, mapping.id, is_solid)?;
+    let edge = edge_text(alloc, mapping.parent, mapping.id, style)?;
     format!(in alloc; "{space}{parent}{edge}")
 }
 
@@ -122,7 +145,7 @@ fn root_line(alloc: Global, facts: &Facts) -> Result<String, AllocError>
     ensures { IfOk result (λ text. string_bytes text ≡ root_line (state_of_facts facts.now)) }
 {
     let label = root_label(alloc, facts)?;
-    let node = node_text(alloc, RecordId::ROOT, label.as_str(), true)?;
+    let node = node_text(alloc, RecordId::ROOT, label.as_str(), Style::Solid)?;
     boxed(alloc, Space::FIRST, node.as_str())
 }
 

@@ -3,7 +3,6 @@ use Rattle.std.specs.Prelude.{◌≡◌, ◌⊎◌, ◌↔◌, ℕ, ◌<◌, ◌
 use Rattle.std.specs.Prelude.{Result, Ok, Err, codes}
 use Rattle.mapdb_lines.specs.Fronts.{BeginsWith}
 use Rattle.mapdb_lines.specs.Limits.{line_limit, read_ahead}
-use Rattle.mapdb_script.specs.declared.faults.ScriptFault.TheVariants as script
 use Rattle.mapdb_picture.specs.Loading.{explained, pictured}
 use Rattle.mapdb_picture.specs.declared.faults.LoadFault.{LoadFault}
 use Rattle.mapdb_picture.specs.declared.faults.LoadFault.TheVariants.{Memory, Snapshot, Take}
@@ -14,7 +13,7 @@ use Rattle.mapdb_snapshot.specs.declared.faults.SnapshotFault.TheVariants as sna
 use Rattle.mapdb_replica.specs.declared.faults.TakeFault.{TakeFault}
 use Rattle.mapdb_replica.specs.declared.faults.TakeFault.TheVariants as take
 use Rattle.mapdb_script.specs.Reply.{bad_name, snapshot_name}
-use Rattle.mapdb_program.specs.Statuses.{memory_message, message_of}
+use Rattle.mapdb_program.specs.Statuses.{memory_message, read_message, write_message}
 use Rattle.mapdb_program.specs.declared.endings.Ending.{Ending}
 use Rattle.mapdb_program.specs.declared.endings.Ending.TheVariants.{Done, Faulty, OutOfMemory}
 use Rattle.mapdb_program.specs.declared.endings.Ending.TheVariants.{StreamFailed}
@@ -118,7 +117,7 @@ load_message (Take fault) = take_message fault
 -- what is told on the errors
 abbrev pub snapshot_message : Result (Unit {0}) TellFault → List ℕ
 snapshot_message (Ok done) = []
-snapshot_message (Err Read) = message_of (Err script.Read)
-snapshot_message (Err Write) = message_of (Err script.Write)
+snapshot_message (Err Read) = read_message
+snapshot_message (Err Write) = write_message
 snapshot_message (Err TooLong) = codes "l4map: refused snapshot too-long\n"
 snapshot_message (Err (Load fault)) = load_message fault

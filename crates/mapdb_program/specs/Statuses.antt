@@ -18,13 +18,17 @@ ending_status Refused = 2
 ending_status StreamFailed = 3
 ending_status OutOfMemory = 4
 
+-- how the program ends where a script has this fault
+abbrev pub fault_ending : ScriptFault → Ending
+fault_ending (fault.Line number f) = Faulty
+fault_ending fault.Read = StreamFailed
+fault_ending fault.Write = StreamFailed
+fault_ending fault.Memory = OutOfMemory
+
 -- how the program ends, by the outcome of a run
 abbrev pub ending_of : Result Summary ScriptFault → Ending
 ending_of (Ok summary) = Done
-ending_of (Err (fault.Line number f)) = Faulty
-ending_of (Err fault.Read) = StreamFailed
-ending_of (Err fault.Write) = StreamFailed
-ending_of (Err fault.Memory) = OutOfMemory
+ending_of (Err why) = fault_ending why
 
 -- what is told where memory ran out
 abbrev pub memory_message : List ℕ
@@ -34,13 +38,24 @@ memory_message = codes "l4map: out of memory\n"
 abbrev pub words_message : List ℕ
 words_message = codes "l4map: the command line is not UTF-8\n"
 
--- what is told of a run: nothing of a faulty line, which the output tells
+-- what is told where a read failed, and where a write did
+abbrev pub read_message : List ℕ
+read_message = codes "l4map: read failed\n"
+
+abbrev pub write_message : List ℕ
+write_message = codes "l4map: write failed\n"
+
+-- what is told of a script's fault: nothing of a faulty line, which the output tells
+abbrev pub fault_message : ScriptFault → List ℕ
+fault_message (fault.Line number f) = []
+fault_message fault.Read = read_message
+fault_message fault.Write = write_message
+fault_message fault.Memory = memory_message
+
+-- what is told of a run
 abbrev pub message_of : Result Summary ScriptFault → List ℕ
 message_of (Ok summary) = []
-message_of (Err (fault.Line number f)) = []
-message_of (Err fault.Read) = codes "l4map: read failed\n"
-message_of (Err fault.Write) = codes "l4map: write failed\n"
-message_of (Err fault.Memory) = memory_message
+message_of (Err why) = fault_message why
 
 -- A writer that had written `old` has now written `new`, and it was told a message: all of it, or a
 -- front where it failed.

@@ -13,8 +13,8 @@ use Rattle.mapdb_script.specs.declared.faults.ScriptFault.TheVariants as script
 use Rattle.mapdb_script.specs.Answering.{reply_line}
 use Rattle.mapdb_script.specs.Reply.{same_text}
 use Rattle.mapdb_script.specs.Script.{fault_line}
-use Rattle.mapdb_script.specs.Threading.{HasTaken, IsFaulty, scripts_of}
-use Rattle.mapdb_program.specs.Statuses.{ending_of, memory_message, message_of}
+use Rattle.mapdb_script.specs.Threading.{HasReadScripts, IsFaulty, scripts_of}
+use Rattle.mapdb_program.specs.Statuses.{fault_ending, fault_message, memory_message}
 use Rattle.mapdb_program.specs.declared.endings.Ending.{Ending}
 use Rattle.mapdb_program.specs.declared.endings.Ending.TheVariants.{Done, Faulty, OutOfMemory}
 use Rattle.mapdb_program.specs.declared.threaded.ThreadsFault.{ThreadsFault}
@@ -73,7 +73,7 @@ abbrev pub AnswersThreads : ℕ → Result (Unit {0}) ThreadsFault → List ℕ 
 AnswersThreads capacity (Ok done) input text Over = Over × IsReport capacity input text
 AnswersThreads capacity (Err (Script (script.Line number f))) input text Over =
     IsFaulty number f input Over × (text ≡ fault_line number f)
-AnswersThreads capacity (Err (Script script.Read)) input text Over = HasTaken input IsPart
+AnswersThreads capacity (Err (Script script.Read)) input text Over = HasReadScripts input IsPart
     × (text ≡ [])
 AnswersThreads capacity (Err (Script script.Write)) input text Over =
     (whole : List ℕ) × ((Over × IsReport capacity input whole) ⊎ IsFaultLine input whole Over)
@@ -101,7 +101,7 @@ run_ending run.Link = Faulty
 -- how the program ends, by the outcome of a script in threads
 abbrev pub threads_ending : Result (Unit {0}) ThreadsFault → Ending
 threads_ending (Ok done) = Done
-threads_ending (Err (Script fault)) = ending_of (Err fault)
+threads_ending (Err (Script fault)) = fault_ending fault
 threads_ending (Err (Run why)) = run_ending why
 
 -- what is told of a run that gave no report
@@ -116,5 +116,5 @@ run_message run.Link = codes "run fault link\n"
 -- what is told of a script in threads: nothing of a faulty line, which the output tells
 abbrev pub threads_message : Result (Unit {0}) ThreadsFault → List ℕ
 threads_message (Ok done) = []
-threads_message (Err (Script fault)) = message_of (Err fault)
+threads_message (Err (Script fault)) = fault_message fault
 threads_message (Err (Run why)) = run_message why

@@ -4,7 +4,7 @@ ghost use Rattle.std.specs.Prelude.{◌≡◌};
 ghost use Rattle.mapdb_program.specs.Snapshots.{bad_message, page_message, snapshot_message};
 ghost use Rattle.mapdb_program.specs.Snapshots.{take_message};
 ghost use Rattle.mapdb_program.specs.Snapshots.{text_message};
-ghost use Rattle.mapdb_program.specs.Statuses.{IsTold, message_of};
+ghost use Rattle.mapdb_program.specs.Statuses.{IsTold, fault_message, message_of};
 ghost use Rattle.mapdb_program.specs.Threaded.{run_message, threads_message};
 
 use crate::snapshots::TellFault;
@@ -22,15 +22,31 @@ pub const OUT_OF_MEMORY: &[u8] = b"l4map: out of memory\n";
 /// Told where a word of the command line is no UTF-8.
 pub const WORDS_ARE_NO_TEXT: &[u8] = b"l4map: the command line is not UTF-8\n";
 
-/// What is told of a run: nothing of a faulty line, which the output tells.
+/// Told where a read failed.
+const READ_FAILED: &[u8] = b"l4map: read failed\n";
+
+/// Told where a write failed.
+const WRITE_FAILED: &[u8] = b"l4map: write failed\n";
+
+/// What is told of a script's fault: nothing of a faulty line, which the output tells.
+fn fault_message(fault: ScriptFault) -> &'static [u8]
+    ensures { result.now ≡ fault_message fault }
+{
+    match fault {
+        ScriptFault::Line { .. } => b"",
+        ScriptFault::Read => READ_FAILED,
+        ScriptFault::Write => WRITE_FAILED,
+        ScriptFault::Memory => OUT_OF_MEMORY,
+    }
+}
+
+/// What is told of a run.
 pub fn message(outcome: &Result<Summary, ScriptFault>) -> &'static [u8]
     ensures { result.now ≡ message_of outcome.now }
 {
     match outcome {
-        Ok(_) | Err(ScriptFault::Line { .. }) => b"",
-        Err(ScriptFault::Read) => b"l4map: read failed\n",
-        Err(ScriptFault::Write) => b"l4map: write failed\n",
-        Err(ScriptFault::Memory) => OUT_OF_MEMORY,
+        Ok(_) => b"",
+        Err(fault) => fault_message(*fault),
     }
 }
 
@@ -54,7 +70,7 @@ pub fn threads_message(outcome: &Result<(), ThreadsFault>) -> &'static [u8]
 {
     match outcome {
         Ok(()) => b"",
-        Err(ThreadsFault::Script(fault)) => message(&Err(*fault)),
+        Err(ThreadsFault::Script(fault)) => fault_message(*fault),
         Err(ThreadsFault::Run(why)) => run_message(*why),
     }
 }
@@ -116,8 +132,8 @@ pub fn snapshot_message(outcome: &Result<(), TellFault>) -> &'static [u8]
 {
     match outcome {
         Ok(()) => b"",
-        Err(TellFault::Read) => message(&Err(ScriptFault::Read)),
-        Err(TellFault::Write) => message(&Err(ScriptFault::Write)),
+        Err(TellFault::Read) => READ_FAILED,
+        Err(TellFault::Write) => WRITE_FAILED,
         Err(TellFault::TooLong) => b"l4map: refused snapshot too-long\n",
         Err(TellFault::Load(LoadFault::Memory)) => OUT_OF_MEMORY,
         Err(TellFault::Load(LoadFault::Snapshot(why))) => text_message(*why),

@@ -7,7 +7,7 @@ ghost use Rattle.mapdb_program.specs.Commands.{job_in};
 ghost use Rattle.mapdb_program.specs.Ends.{EndsFor, EndsRun, EndsTell, EndsThreads, given, taken};
 ghost use Rattle.mapdb_program.specs.Snapshots.{snapshot_ending};
 ghost use Rattle.mapdb_program.specs.Statuses.{IsTold, Refuses, TellsOutOfMemory, ending_of};
-ghost use Rattle.mapdb_program.specs.Statuses.{words_message};
+ghost use Rattle.mapdb_program.specs.Statuses.{fault_ending, words_message};
 ghost use Rattle.mapdb_program.specs.Threaded.{threads_ending};
 
 use crate::commands::{Job, job_of};
@@ -28,15 +28,24 @@ use std::io;
 use std::sync::Wait;
 use std::thread::Threads;
 
+/// How the program ends where a script has this fault.
+fn fault_ending(fault: ScriptFault) -> Ending
+    ensures { result ≡ fault_ending fault }
+{
+    match fault {
+        ScriptFault::Line { .. } => Ending::Faulty,
+        ScriptFault::Read | ScriptFault::Write => Ending::StreamFailed,
+        ScriptFault::Memory => Ending::OutOfMemory,
+    }
+}
+
 /// How the program ends, by the outcome of a run.
 fn ending_of(outcome: &Result<Summary, ScriptFault>) -> Ending
     ensures { result ≡ ending_of outcome.now }
 {
     match outcome {
         Ok(_) => Ending::Done,
-        Err(ScriptFault::Line { .. }) => Ending::Faulty,
-        Err(ScriptFault::Read | ScriptFault::Write) => Ending::StreamFailed,
-        Err(ScriptFault::Memory) => Ending::OutOfMemory,
+        Err(fault) => fault_ending(*fault),
     }
 }
 
@@ -95,7 +104,7 @@ fn threads_ending(outcome: &Result<(), ThreadsFault>) -> Ending
 {
     match outcome {
         Ok(()) => Ending::Done,
-        Err(ThreadsFault::Script(fault)) => ending_of(&Err(*fault)),
+        Err(ThreadsFault::Script(fault)) => fault_ending(*fault),
         Err(ThreadsFault::Run(RunFault::Memory)) => Ending::OutOfMemory,
         Err(ThreadsFault::Run(_)) => Ending::Faulty,
     }
