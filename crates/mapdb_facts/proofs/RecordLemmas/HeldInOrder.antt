@@ -1,11 +1,11 @@
 -- Records by name, and their names in order.
-use Rattle.std.specs.Prelude.{◌≡◌, ◌≢◌, ◌⊎◌, ◌↔◌, ◌||◌, ℕ, zero, suc, Bool, true, false, cond, List, [], ◌∷◌, length, Option, Some, None, IfSome, IsTrue, refl}
+use Rattle.std.specs.Prelude.{◌≡◌, ◌≢◌, ◌↔◌, ◌||◌, ℕ, zero, suc, Bool, true, false, cond, List, [], ◌∷◌, length, Option, Some, None, IfSome, IsTrue, refl}
 use Rattle.std.proofs.Common.{sym, ◌∙◌, ap, subst, inl, inr, Bor}
 use Rattle.std.specs.Option.{is_some, option_copied}
 use Rattle.std.specs.BTreeMap.{is_at}
 use Rattle.std.specs.List.{list_any}
 use Rattle.std.specs.Map.{lookup}
-use Rattle.std.proofs.lemmas.Bool.{cases_Bool, true≢false, false≢true}
+use Rattle.std.proofs.lemmas.Bool.{true≢false, false≢true}
 use Rattle.mapdb_join.specs.Atoms.{Clashes, HasNone, Includes, IsExclusion, IsUnion}
 use Rattle.mapdb_join.specs.Entries.{some_has}
 use Rattle.mapdb_join.proofs.Changes.{union_at, union_new}
@@ -22,7 +22,7 @@ use Rattle.mapdb_facts.proofs.Lists.Comparing.{exact_ids, id_at}
 use Rattle.mapdb_facts.proofs.Lists.SameNames.{same_id_itself, some_same}
 use Rattle.mapdb_facts.proofs.NameLemmas.NamesInOrder.{changed_from, found_by, id_total, one_lookup, with_found}
 use Rattle.mapdb_facts.proofs.RecordLemmas.RecordAtoms.{atom_of_record, record_of_atom}
-use Rattle.mapdb_facts.proofs.RecordLemmas.SameRecords.{same_record_itself}
+use Rattle.mapdb_facts.proofs.RecordLemmas.SameRecords.{same_or_other, same_record_itself}
 
 -- ---- one record more
 
@@ -77,12 +77,6 @@ absent_here None p is some = sym is
 absent_here (Some b) p is some = absurd (true≢false some)
 
 -- ---- two that hold records
-
-pub same_or_other : (r s : Record) → (r ≡ s) ⊎ (r ≢ s)
-same_or_other r s = elim (cases_Bool (same_record r s)) [
-  | inl same ↦ inl (exact_record r s same)
-  | inr other ↦ inr (λ e. true≢false (sym (subst (λ (x : Record). same_record r x ≡ true) e (same_record_itself r)) ∙ other))
-]
 
 -- records that do not clash are one
 pub agree_same : (o : Option Record) (r : Record) → IfSome o (λ mine. Clashes same_record (λ x y. x ≢ y) mine r → ⊥) → IfSome o (λ held. held ≡ r)

@@ -10,6 +10,7 @@ use Rattle.mapdb_facts.specs.declared.operations.Record.{Record}
 use Rattle.mapdb_facts.specs.declared.names.RecordId.{RecordId}
 use Rattle.mapdb_facts.specs.Adding.{same_record}
 use Rattle.mapdb_facts.specs.Exact.{exact_id, exact_record}
+use Rattle.mapdb_facts.specs.HeldRecords.{one_under}
 use Rattle.mapdb_facts.specs.Names.{same_id}
 use Rattle.mapdb_facts.specs.State.{first_of}
 use Rattle.mapdb_facts.specs.Kept.{Records, has_record, id_cmp, record_in}
@@ -36,7 +37,7 @@ atom_of_record records id r h = inner_found (lookup (is_at (id_cmp id)) records)
 
 -- one record alone
 abbrev pub one_record : Record → Records
-one_record r = (r.id, r) ∷ []
+one_record r = one_under r.id r
 
 alone : (b : Bool) (r s : Record) → some_has same_record (cond b (Some r) None) s ≡ true → (b ≡ true) × (r ≡ s)
 alone true r s h = (refl, exact_record r s h)

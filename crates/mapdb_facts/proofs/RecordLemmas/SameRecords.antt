@@ -1,10 +1,12 @@
--- A record compares equal to itself.
-use Rattle.std.proofs.Common.{◌≡◌, Bool, true, false, refl}
+-- Whether two records are one.
+use Rattle.std.proofs.Common.{◌≡◌, Bool, true, false, refl, sym, ◌∙◌, subst, inl, inr}
+use Rattle.std.specs.Prelude.{◌≢◌, ◌⊎◌}
 use Rattle.std.specs.Bool.{beq}
 use Rattle.std.specs.Prelude.{nat_eq}
-use Rattle.std.proofs.lemmas.Bool.{and_from, eq-eqb}
+use Rattle.std.proofs.lemmas.Bool.{and_from, cases_Bool, eq-eqb, true≢false}
 use Rattle.mapdb_facts.specs.declared.operations.Record.{Record}
 use Rattle.mapdb_facts.specs.Adding.{same_place, same_record}
+use Rattle.mapdb_facts.specs.Exact.{exact_record}
 use Rattle.mapdb_facts.specs.Names.{same_id, same_space}
 use Rattle.mapdb_facts.proofs.Lists.SameNames.{same_id_itself, same_space_itself}
 
@@ -22,3 +24,10 @@ same_record_itself a =
     (and_from (nat_eq a.source a.source) _ (eq-eqb _ _ refl)
     (and_from (beq a.rights.read a.rights.read) _ (beq_itself a.rights.read)
     (and_from (beq a.rights.write a.rights.write) (beq a.rights.execute a.rights.execute) (beq_itself a.rights.write) (beq_itself a.rights.execute)))))))
+
+-- two records are one or not
+pub same_or_other : (r s : Record) → (r ≡ s) ⊎ (r ≢ s)
+same_or_other r s = elim (cases_Bool (same_record r s)) [
+  | inl same ↦ inl (exact_record r s same)
+  | inr other ↦ inr (λ e. true≢false (sym (subst (λ (x : Record). same_record r x ≡ true) e (same_record_itself r)) ∙ other))
+]

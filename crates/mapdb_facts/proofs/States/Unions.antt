@@ -1,24 +1,14 @@
 -- The join of states that agree is the union of their atoms.
-use Rattle.std.specs.Prelude.{◌≡◌, ◌≢◌, ◌⊎◌, ◌↔◌, true, Option, Some, None, refl}
+use Rattle.std.specs.Prelude.{◌≡◌, ◌⊎◌, ◌↔◌, true, Option, Some, None, refl}
 use Rattle.std.proofs.Common.{sym, ◌∙◌, ap, subst, inl, inr}
-use Rattle.std.proofs.lemmas.Bool.{cases_Bool, or_cases, or_left, or_right, true≢false}
+use Rattle.std.proofs.lemmas.Bool.{or_cases, or_left, or_right}
 use Rattle.mapdb_facts.specs.declared.names.RecordId.{RecordId}
 use Rattle.mapdb_facts.specs.declared.operations.Record.{Record}
 use Rattle.mapdb_facts.specs.Merging.{Includes, IsNamed, StatesDoNotClash}
 use Rattle.mapdb_facts.specs.State.{Atom, End, Has, Rec, Rev, State, first_of, join}
 use Rattle.mapdb_facts.proofs.Maps.Atoms.{first_of_cases}
-use Rattle.mapdb_facts.specs.Adding.{same_record}
-use Rattle.mapdb_facts.specs.Exact.{exact_record}
 use Rattle.mapdb_facts.proofs.Lists.SameNames.{some_same}
-use Rattle.mapdb_facts.proofs.RecordLemmas.SameRecords.{same_record_itself}
-
--- two records are one or not
-same_or_differ : (r s : Record) → (r ≡ s) ⊎ (r ≢ s)
-same_or_differ r s =
-    elim (cases_Bool (same_record r s)) [
-      | inl same ↦ inl (exact_record r s same)
-      | inr other ↦ inr (λ e. true≢false (sym (subst (λ (x : Record). same_record r x ≡ true) e (same_record_itself r)) ∙ other))
-    ]
+use Rattle.mapdb_facts.proofs.RecordLemmas.SameRecords.{same_or_other}
 
 to_either : (S T : State) (atom : Atom) → Has (join S T) atom → Has S atom ⊎ Has T atom
 to_either S T (Rec r) h = first_of_cases (S.record_at r.id) (T.record_at r.id) r h
@@ -36,7 +26,7 @@ from_second S T agree (Rec r) h = by (S.record_at r.id) refl
     by : (o : Option Record) → S.record_at r.id ≡ o → first_of o (T.record_at r.id) ≡ Some r
     by None e = h
     by (Some s) e =
-        elim (same_or_differ s r) [
+        elim (same_or_other s r) [
           | inl same ↦ ap Some same
           | inr apart ↦ absurd (agree r.id (record { one = s; other = r; in_first = e; in_second = h; apart = apart }))
         ]

@@ -9,6 +9,7 @@ use Rattle.std.specs.declared.cmp.Ordering.TheVariants.{Equal, Greater, Less}
 use Rattle.std.proofs.lemmas.Bool.{and_from, and_parts, eq-eqb, eqb-true, false≢true, true≢false}
 use Rattle.std.proofs.lemmas.Cmp.{nat_cmp_total, on_total, then_total, tied_itself}
 use Rattle.mapdb_facts.proofs.Lists.Comparing.{from_below, id_at, nat_at, space_at}
+use Rattle.mapdb_facts.proofs.NameLemmas.NamesInOrder.{id_total}
 use Rattle.mapdb_facts.specs.Exact.{exact_id, exact_space}
 use Rattle.mapdb_facts.specs.Kept.{id_cmp, space_cmp}
 use Rattle.mapdb_facts.specs.Names.{root, same_id}
@@ -19,9 +20,6 @@ use Rattle.mapdb_lists.specs.declared.places.Owner.TheVariants.{Record, Space}
 use Rattle.mapdb_lists.specs.Listing.{listed_cmp, owner_cmp, same_owner}
 
 -- ---- it is total, and what compares equal is the same
-
-pub id_total : IsTotalOrder id_cmp
-id_total = then_total (on_total (λ (a : RecordId). a.number) nat_cmp_total) (on_total (λ (a : RecordId). a.processor) nat_cmp_total)
 
 space_total : IsTotalOrder space_cmp
 space_total = then_total (on_total (λ a. a.number) nat_cmp_total) (on_total (λ a. a.version) nat_cmp_total)

@@ -15,7 +15,8 @@ use Rattle.mapdb_facts.specs.Names.{root, same_id}
 use Rattle.mapdb_lists.specs.declared.own_places.OwnPlace.{OwnPlace}
 use Rattle.mapdb_lists.specs.contracts.own_places.OwnPlacePartialEq.TheImpl as place_eq
 use Rattle.mapdb_lists.specs.OwnPlaces.{place_cmp, start}
-use Rattle.mapdb_lists.proofs.Lists.ListedOrder.{from_equal, id_total, less_from, root_first, three_ways, up_to}
+use Rattle.mapdb_facts.proofs.NameLemmas.NamesInOrder.{id_total}
+use Rattle.mapdb_lists.proofs.Lists.ListedOrder.{from_equal, less_from, root_first, three_ways, up_to}
 
 -- and so is what is equal
 abbrev pub derived_eq : OwnPlace → OwnPlace → Bool

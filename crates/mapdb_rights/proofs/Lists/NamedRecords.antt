@@ -26,7 +26,7 @@ use Rattle.mapdb_facts.specs.State.{State}
 use Rattle.mapdb_facts.specs.declared.holding.Facts.{Facts}
 use Rattle.mapdb_facts.specs.declared.names.RecordId.{RecordId}
 use Rattle.mapdb_facts.specs.declared.operations.Record.{Record}
-use Rattle.mapdb_lists.proofs.Lists.ListedOrder.{id_total}
+use Rattle.mapdb_facts.proofs.NameLemmas.NamesInOrder.{id_total}
 use Rattle.mapdb_rights.specs.AllBut.{IsAllBut}
 use Rattle.mapdb_rights.specs.Meeting.{is_named, record_if}
 use Rattle.mapdb_rights.proofs.Lists.AllBut.{all_but_failing}

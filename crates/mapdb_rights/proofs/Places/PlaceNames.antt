@@ -13,7 +13,8 @@ use Rattle.mapdb_facts.specs.Names.{is_after, is_before, root}
 use Rattle.mapdb_facts.specs.declared.names.RecordId.{RecordId}
 use Rattle.mapdb_lists.specs.Listing.{IsFirst, IsFirstInside, is_above, is_listed, listed_cmp}
 use Rattle.mapdb_lists.specs.declared.places.Listed.{Listed}
-use Rattle.mapdb_lists.proofs.Lists.ListedOrder.{from_above, from_equal, id_total, le_parts, root_first, same_then, three_ways}
+use Rattle.mapdb_facts.proofs.NameLemmas.NamesInOrder.{id_total}
+use Rattle.mapdb_lists.proofs.Lists.ListedOrder.{from_above, from_equal, le_parts, root_first, same_then, three_ways}
 use Rattle.mapdb_lists.specs.declared.places.Places.{Places}
 use Rattle.mapdb_rights.specs.Among.{IsLeastName, StandsAt, behind_name, under}
 
