@@ -12,10 +12,10 @@ use crate::names::RecordId;
 use std::alloc::{AllocError, Global};
 use std::marker::Model;
 
-/// Values by the name of a record, in the order in which the names came.
+/// Values by the name of a record.
 #[derive(Drop)]
 pub struct ByName<V> {
-    /// The names.
+    /// The names, each once.
     pub names: NameList,
     /// Their values, in the same order.
     pub values: Vec<V>,

@@ -1,7 +1,7 @@
 //! The records that are held, by name: each is found at once, and all are met in their order.
 
-ghost use Rattle.std.specs.Prelude.{◌≡◌, ◌↔◌, [], IfNone, IfOk, IfSome, IsSome, IsTrue, MatchOption};
-ghost use Rattle.std.specs.Prelude.{None, OnErr, OnOk, false};
+ghost use Rattle.std.specs.Prelude.{◌≡◌, ◌↔◌, [], IfNone, IfOk, IfSome, IsSome, IsTrue};
+ghost use Rattle.std.specs.Prelude.{MatchOption, None, OnErr, OnOk, false};
 ghost use Rattle.std.specs.BTreeMap.Range.{IsLeBy};
 ghost use Rattle.std.specs.BTreeSet.{contains};
 ghost use Rattle.std.specs.Ordering.{is_lt};
@@ -76,8 +76,8 @@ fn last_name(order: &BTreeSet<RecordId>) -> Option<RecordId>
     order.last().copied()
 }
 
-/// Holds a record under a name that has none. An error where memory ran out, and then nothing has
-/// changed but the order in which names are kept.
+/// Holds a record under a name that has none. An error where memory ran out, and then the same
+/// records and names are kept.
 fn add_new(
     by_name: &mut ByName<Record>,
     order: &mut BTreeSet<RecordId>,

@@ -47,7 +47,8 @@ Unsettles S (Closed space) id page =
 abbrev pub OperationsUnsettle : Type 0
 OperationsUnsettle =
     (S : State) (op : Op) (cached : Cached) → AreRights S cached
-    → (id : RecordId) (page : ℕ) → IsSettled (join S (said op)) cached id page ⊎ Unsettles S op id page
+    → (id : RecordId) (page : ℕ)
+    → IsSettled (join S (said op)) cached id page ⊎ Unsettles S op id page
 
 -- over these pages of the record the rights are taken anew from the parent's, elsewhere they stay
 abbrev pub IsTakenAnew : State → Cached → RecordId → ℕ → ℕ → Cached → Type 0

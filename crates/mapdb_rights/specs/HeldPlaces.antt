@@ -40,7 +40,8 @@ pub record IsListed (S : State) (set : Places) (r : Record) : Type 0 where
   pub by_parent : IsRevoked S r ⊎ (is_listed set (source_of r) ≡ true)
   pub place : IsPlace r.place
 
--- each record that is held is listed, as far as it is not revoked, whether its parent is held or not
+-- each record that is held is listed, as far as it is not revoked, whether its parent is held or
+-- not
 abbrev pub HasSources : State → Places → Type 0
 HasSources S set = (r : Record) → Holds S r → IsListed S set r
 

@@ -1,5 +1,6 @@
 -- The records whose places, or whose sources, share pages with a place.
-use Rattle.std.specs.Prelude.{◌≡◌, Bool, ◌&&◌, false, true, List, filter, Option, None, Some, is_some, if◌then◌else◌}
+use Rattle.std.specs.Prelude.{◌≡◌, Bool, ◌&&◌, false, true, List, filter, Option, None, Some}
+use Rattle.std.specs.Prelude.{is_some, if◌then◌else◌}
 use Rattle.std.specs.BTreeMap.{is_at}
 use Rattle.std.specs.List.{list_any}
 use Rattle.mapdb_fpage.specs.Place.{Place, from_page, meet}
