@@ -10,8 +10,10 @@ BUILT = build
 all: $(ARCHIVE) $(BUILT)/smallest $(BUILT)/two_processors
 
 $(ARCHIVE): crates.txt $(SOURCES)
+	mkdir -p $(BUILT)
+	touch $(BUILT)/begun
 	./prove mapdb_c
-	touch $@
+	touch -r $(BUILT)/begun $@
 
 $(BUILT)/mapdb_heap.o: c/mapdb_heap.c include/mapdb.h
 	mkdir -p $(BUILT)

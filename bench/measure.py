@@ -8,6 +8,7 @@ and as small as it gets: what it has in memory is the least peak that it can tel
 """
 
 import os
+import select
 import signal
 import sys
 import time
@@ -19,19 +20,15 @@ def main(limit: str, source: str, target: str, *command: str) -> None:
         (os.POSIX_SPAWN_OPEN, 1, target, os.O_WRONLY | os.O_CREAT | os.O_TRUNC, 0o644),
         (os.POSIX_SPAWN_OPEN, 2, os.devnull, os.O_WRONLY, 0),
     ]
-    late = []
-
-    def end(*_) -> None:
-        late.append(process)
-        os.kill(process, signal.SIGKILL)
-    signal.signal(signal.SIGALRM, end)
     begun = time.perf_counter()
     process = os.posix_spawnp(command[0], command, os.environ, file_actions=streams)
-    signal.setitimer(signal.ITIMER_REAL, float(limit))
+    # The process is not waited for before it is known to be over: until then its number is its own.
+    is_over = bool(select.select([os.pidfd_open(process)], [], [], float(limit))[0])
+    if not is_over:
+        os.kill(process, signal.SIGKILL)
     _, status, usage = os.wait4(process, 0)
     seconds = time.perf_counter() - begun
-    signal.setitimer(signal.ITIMER_REAL, 0)
-    told = "none" if late else os.waitstatus_to_exitcode(status)
+    told = os.waitstatus_to_exitcode(status) if is_over else "none"
     processor = usage.ru_utime + usage.ru_stime
     print("%.6f %.6f %d %s" % (seconds, processor, usage.ru_maxrss, told))
 

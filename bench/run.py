@@ -37,6 +37,14 @@ def options() -> argparse.Namespace:
     for name in chosen.names:
         if name not in WORKS:
             parser.error("no such work: %s" % name)
+    if chosen.runs < 1 or not chosen.limit > 0:
+        parser.error("a run at least, and some time for it")
+    try:
+        scales = [scale_of(scale) for scale in chosen.scales.split(",")]
+    except (ValueError, ZeroDivisionError):
+        scales = []
+    if not scales or min(scales) <= 0:
+        parser.error("no such scales: %s" % chosen.scales)
     if chosen.beside and shutil.which(shlex.split(chosen.beside)[0]) is None:
         parser.error("no such program: %s" % chosen.beside)
     return chosen

@@ -170,8 +170,8 @@ static inline const char *mapdb_status_name(uint32_t status)
 }
 
 /*
- * A copy, or none. It is MAPDB_EMPTY before the first call, or bytes that are 0, as static memory is
- * at first; then the calls alone write it.
+ * A copy, or none. It is MAPDB_EMPTY before the first call, or bytes that are 0, as static memory
+ * is at first; then the calls alone write it.
  */
 typedef struct mapdb_copy {
     void *at;

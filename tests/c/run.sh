@@ -48,8 +48,8 @@ has() {
 
 # The crate for Rust is of the edition of 2024, which older ones do not know.
 has_cargo() {
-    cargo --version 2>/dev/null |
-        awk '{ split($2, part, "."); exit !(part[1] > 1 || part[2] >= 85) }'
+    has cargo && cargo --version 2>/dev/null |
+        awk '{ split($2, part, "."); good = part[1] > 1 || part[2] >= 85 } END { exit !good }'
 }
 
 if [ -z "${ARCHIVE:-}" ]; then
@@ -224,7 +224,9 @@ for script in tests/c/scripts/*.l4; do
     fi
 done
 
-if [ -x "$tool" ] && has python3; then
+if ! has python3; then
+    skipped "random scripts" python3
+elif [ -x "$tool" ]; then
     try "random scripts as l4map runs them" python3 tests/c/compare.py \
         --driver "$build/script_plain" --program "$tool" --count "${RANDOM_SCRIPTS:-1000}"
 fi
