@@ -3,10 +3,9 @@
 from typing import Iterable
 
 from driver.scripts import Script
+from model.script import LONGEST_LINE, MOST_LINES
 
 CHAIN = 65536
-LONGEST_LINE = 8388608
-MOST_LINES = 1000000
 PAGES = 1 << 36
 
 

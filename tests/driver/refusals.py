@@ -6,14 +6,13 @@ from typing import NamedTuple, Optional
 
 from driver.interposer import Counts, Interposer
 from driver.program import NO_MEMORY, Outcome, Program
-from driver.scripts import Script, examples, rows
+from driver.scripts import LONGEST_SCRIPT, Script, examples, rows
 from driver.tally import Met, Tally
 
 NAMED = """
     flush_one_page_of_four every_delivery_order occupied_destination numbers_spent remap_after_unmap
     picture_of_all_kinds explain_two_records
 """.split()
-LONGEST_SCRIPT = 20000
 MOST_REFUSALS = 1000000
 
 FAULTS_OF_THREADS = {

@@ -7,6 +7,8 @@ from driver.program import TESTS, TOP, Outcome
 
 ROWS = os.path.join(TESTS, "rows")
 EXAMPLES = os.path.join(TOP, "examples")
+# Where a script is run many times, once for each call that may fail, longer ones are left out.
+LONGEST_SCRIPT = 20000
 
 
 ERRORS = {

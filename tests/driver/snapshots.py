@@ -4,15 +4,14 @@ import json
 from random import Random
 from typing import Iterator
 
-from driver.scripts import Script, examples, rows
+from driver.scripts import LONGEST_SCRIPT, Script, examples, rows
 from maker.scripts import case_of
 from maker.spoiling import spoil_bytes, spoil_json
 from model.grammar import Line, parse_line
+from model.loading import LONGEST_TEXT
 from model.places import Fault
 from model.script import content, lines_of, run_script
 
-LONGEST_TEXT = 8388608
-LONGEST_SCRIPT = 20000
 PROCESSORS = 4
 SAVED = b"snapshot "
 

@@ -6,14 +6,13 @@ from typing import Iterator
 
 from driver.interposer import Interposer
 from driver.program import READ_FAILED, WRITE_FAILED, Outcome, Program
-from driver.scripts import Script, examples, rows
+from driver.scripts import LONGEST_SCRIPT, Script, examples, rows
 from driver.tally import Met, Tally
 
 SHORT = """
     first_path flush_one_page_of_four every_delivery_order faulty_places_too_small threaded_exchange
     empty_script picture_of_nothing explain_memory
 """.split()
-LONGEST_SCRIPT = 20000
 PIECES = [
     {"read_piece": 1},
     {"write_piece": 1},

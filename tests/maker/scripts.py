@@ -6,9 +6,8 @@ from typing import Callable, NamedTuple
 
 from maker import lines, spoiling, texts
 from maker.worlds import World
-from model.script import run_script
+from model.script import LONGEST_LINE, run_script
 
-LONGEST_LINE = 8388608
 MOST_LINES = 400
 
 
