@@ -3,7 +3,8 @@ use Rattle.std.specs.Prelude.{◌≡◌, ◌≢◌, ◌⊎◌, ℕ, List, Bool, 
 use Rattle.std.specs.Io.KnownBytes.{Appends, Consumes}
 use Rattle.std.specs.declared.io.ErrorKind.{ErrorKind}
 use Rattle.std.specs.declared.io.ErrorKind.TheVariants as io_kind
-use Rattle.mapdb_script.specs.Run.{HasEnded, TellsRun}
+use Rattle.mapdb_lines.specs.Streams.{HasEnded}
+use Rattle.mapdb_script.specs.Run.{TellsRun}
 use Rattle.mapdb_script.specs.declared.faults.ScriptFault.{ScriptFault}
 use Rattle.mapdb_script.specs.declared.faults.Summary.{Summary}
 use Rattle.mapdb_script.specs.declared.faults.ScriptFault.TheVariants as script

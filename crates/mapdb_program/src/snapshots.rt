@@ -4,7 +4,7 @@ ghost use Rattle.std.specs.Prelude.{◌≡◌, ◌≤◌, ◌⊎◌, ℕ, List, 
 ghost use Rattle.std.specs.Prelude.{OnOk, length, string_bytes};
 ghost use Rattle.std.specs.Io.KnownBytes.{Appends, Consumes};
 ghost use Rattle.mapdb_lines.specs.Limits.{line_limit};
-ghost use Rattle.mapdb_script.specs.Run.{HasEnded};
+ghost use Rattle.mapdb_lines.specs.Streams.{HasEnded};
 ghost use Rattle.mapdb_program.specs.Snapshots.{IsFront, IsUnread, TellsSnapshot, answer_told};
 ghost use Rattle.mapdb_program.specs.Statuses.{Blames};
 

@@ -8,7 +8,7 @@ use Rattle.mapdb_exchange.specs.declared.reports.Part.{Part}
 use Rattle.mapdb_script.specs.declared.faults.ScriptFault.{ScriptFault}
 use Rattle.mapdb_script.specs.declared.faults.ScriptFault.TheVariants.{Line}
 use Rattle.mapdb_lines.proofs.BlockLemmas.{appends-none}
-use Rattle.mapdb_script.specs.Run.{HasEnded}
+use Rattle.mapdb_lines.specs.Streams.{HasEnded}
 use Rattle.mapdb_script.specs.Threading.{TellsScripts}
 use Rattle.mapdb_program.specs.Threaded.{IsTextWritten, report_text}
 use Rattle.mapdb_program.proofs.ReportLemmas.{fault_told, report_told}
