@@ -2,8 +2,11 @@
 use Rattle.std.specs.Prelude.{◌≡◌, ◌⊎◌, ◌↔◌, ℕ, Bool, true, List, [], ◌++◌, Result, Ok, Err, codes}
 use Rattle.std.specs.Prelude.{decimal, flat_map, length}
 use Rattle.mapdb_replica.specs.declared.commands.Command.{Command}
+use Rattle.mapdb_replica.specs.declared.faults.TakeFault.TheVariants as take
 use Rattle.mapdb_exchange.specs.Counts.{IsCount}
 use Rattle.mapdb_exchange.specs.Reports.{AreParts, HoldSame}
+use Rattle.mapdb_exchange.specs.declared.faults.NodeFault.{NodeFault}
+use Rattle.mapdb_exchange.specs.declared.faults.NodeFault.TheVariants as node
 use Rattle.mapdb_exchange.specs.declared.faults.RunFault.{RunFault}
 use Rattle.mapdb_exchange.specs.declared.faults.RunFault.TheVariants as run
 use Rattle.mapdb_exchange.specs.declared.reports.Part.{Part}
@@ -104,12 +107,19 @@ threads_ending (Ok done) = Done
 threads_ending (Err (Script fault)) = fault_ending fault
 threads_ending (Err (Run why)) = run_ending why
 
+-- what is told where a node did not do what a worker asked; a full journal and a full copy have
+-- names of their own
+abbrev pub node_message : NodeFault → List ℕ
+node_message node.JournalFull = codes "run fault journal-full\n"
+node_message (node.Refused take.Full) = codes "run fault full\n"
+node_message why = codes "run fault node\n"
+
 -- what is told of a run that gave no report
 abbrev pub run_message : RunFault → List ℕ
 run_message run.BadCount = codes "run fault count\n"
 run_message run.Memory = memory_message
 run_message run.NoThread = codes "run fault thread\n"
-run_message (run.Node why) = codes "run fault node\n"
+run_message (run.Node why) = node_message why
 run_message run.Gate = codes "run fault gate\n"
 run_message run.Link = codes "run fault link\n"
 

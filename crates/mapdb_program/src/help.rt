@@ -81,7 +81,9 @@ pub const THREADS_HELP: &str = "\
 The script has the lines processors (1 to 4), map, words, unmap and end, as of `l4map run`.
 Each processor runs its commands while it takes what the others issue. At the end there is a line
 for each, with how many commands it had and how many operations it issued, and then `same yes` where
-all copies hold the same.
+all copies hold the same. The errors say `run fault full` where a copy would hold more than 65,536
+operations with what others issue, and `run fault journal-full` where a processor's journal would
+have more than 1,048,576 entries, one for each command and each operation that it issues or takes.
 
 Example:
   $ printf 'processors 2\\nmap 0 0 10000/12:rw- 0 1 20000/12\\nend 1 9\\n' | l4map threads

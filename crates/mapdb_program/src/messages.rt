@@ -5,11 +5,11 @@ ghost use Rattle.mapdb_program.specs.Snapshots.{bad_message, page_message, snaps
 ghost use Rattle.mapdb_program.specs.Snapshots.{take_message};
 ghost use Rattle.mapdb_program.specs.Snapshots.{text_message};
 ghost use Rattle.mapdb_program.specs.Statuses.{IsTold, fault_message, message_of};
-ghost use Rattle.mapdb_program.specs.Threaded.{run_message, threads_message};
+ghost use Rattle.mapdb_program.specs.Threaded.{node_message, run_message, threads_message};
 
 use crate::snapshots::TellFault;
 use crate::threaded::ThreadsFault;
-use mapdb_exchange::RunFault;
+use mapdb_exchange::{NodeFault, RunFault};
 use mapdb_facts::OpFault;
 use mapdb_fpage::FpageFault;
 use mapdb_picture::LoadFault;
@@ -50,6 +50,18 @@ pub fn message(outcome: &Result<Summary, ScriptFault>) -> &'static [u8]
     }
 }
 
+/// What is told where a node did not do what a worker asked; a full journal and a full copy have
+/// names of their own.
+fn node_message(why: NodeFault) -> &'static [u8]
+    ensures { result.now ≡ node_message why }
+{
+    match why {
+        NodeFault::JournalFull => b"run fault journal-full\n",
+        NodeFault::Refused(TakeFault::Full) => b"run fault full\n",
+        _ => b"run fault node\n",
+    }
+}
+
 /// What is told of a run in threads that gave no report.
 fn run_message(why: RunFault) -> &'static [u8]
     ensures { result.now ≡ run_message why }
@@ -58,7 +70,7 @@ fn run_message(why: RunFault) -> &'static [u8]
         RunFault::BadCount => b"run fault count\n",
         RunFault::Memory => OUT_OF_MEMORY,
         RunFault::NoThread => b"run fault thread\n",
-        RunFault::Node(_) => b"run fault node\n",
+        RunFault::Node(why) => node_message(why),
         RunFault::Gate => b"run fault gate\n",
         RunFault::Link => b"run fault link\n",
     }
