@@ -23,31 +23,31 @@ use Rattle.mapdb_program.specs.declared.snapshots.TellFault.TheVariants as tell
 use Rattle.mapdb_program.specs.declared.threaded.ThreadsFault.{ThreadsFault}
 
 -- a reader: what was left, what is left now, whether it has ended, and whether it has failed
-pub record Given : Type 0 where
+pub record ReaderUse : Type 0 where
   pub old : Option (List ℕ)
   pub new : Option (List ℕ)
   pub has_ended : Bool
   pub has_failed : Bool
 
 -- a writer: what was written, what is written now, and whether it has failed
-pub record Taken : Type 0 where
+pub record WriterUse : Type 0 where
   pub old : Option (List ℕ)
   pub new : Option (List ℕ)
   pub has_failed : Bool
 
-abbrev pub given : Option (List ℕ) → Option (List ℕ) → Bool → Bool → Given
-given old new has_ended has_failed = record {
+abbrev pub reader_use : Option (List ℕ) → Option (List ℕ) → Bool → Bool → ReaderUse
+reader_use old new has_ended has_failed = record {
   old = old;
   new = new;
   has_ended = has_ended;
   has_failed = has_failed;
 }
 
-abbrev pub taken : Option (List ℕ) → Option (List ℕ) → Bool → Taken
-taken old new has_failed = record { old = old; new = new; has_failed = has_failed }
+abbrev pub writer_use : Option (List ℕ) → Option (List ℕ) → Bool → WriterUse
+writer_use old new has_failed = record { old = old; new = new; has_failed = has_failed }
 
 -- how a run of a script ends
-abbrev pub EndsRun : Ending → Given → Taken → Taken → Type 0
+abbrev pub EndsRun : Ending → ReaderUse → WriterUse → WriterUse → Type 0
 EndsRun ending reader writer errors =
     (outcome : Result Summary ScriptFault) × (input text : List ℕ)
     × Consumes reader.old reader.new input × Appends writer.old writer.new text
@@ -57,7 +57,7 @@ EndsRun ending reader writer errors =
     × IsTold errors.old errors.new errors.has_failed (message_of outcome)
 
 -- how a script in threads ends
-abbrev pub EndsThreads : ℕ → Ending → Given → Taken → Taken → Type 0
+abbrev pub EndsThreads : ℕ → Ending → ReaderUse → WriterUse → WriterUse → Type 0
 EndsThreads capacity ending reader writer errors =
     (outcome : Result (Unit {0}) ThreadsFault) × (input text : List ℕ)
     × Consumes reader.old reader.new input × Appends writer.old writer.new text
@@ -67,7 +67,7 @@ EndsThreads capacity ending reader writer errors =
     × IsTold errors.old errors.new errors.has_failed (threads_message outcome)
 
 -- how it ends that something is asked of a snapshot
-abbrev pub EndsTell : Asked → Ending → Given → Taken → Taken → Type 0
+abbrev pub EndsTell : Asked → Ending → ReaderUse → WriterUse → WriterUse → Type 0
 EndsTell asked ending reader writer errors =
     (outcome : Result (Unit {0}) TellFault) × (input text : List ℕ)
     × Consumes reader.old reader.new input × Appends writer.old writer.new text
@@ -77,12 +77,12 @@ EndsTell asked ending reader writer errors =
     × IsTold errors.old errors.new errors.has_failed (snapshot_message outcome)
 
 -- memory ran out before anything was read or written: `Unused` says that nothing was
-abbrev pub RanOut : Ending → Type 0 → Taken → Type 0
+abbrev pub RanOut : Ending → Type 0 → WriterUse → Type 0
 RanOut ending Unused errors = Unused
     × TellsOutOfMemory ending errors.old errors.new errors.has_failed
 
 -- how the program ends where clap reads its words as this job, or refuses them
-abbrev pub EndsFor : Option Job → Ending → Type 0 → Given → Taken → Taken → Type 0
+abbrev pub EndsFor : Option Job → Ending → Type 0 → ReaderUse → WriterUse → WriterUse → Type 0
 EndsFor None ending Unused reader writer errors = Unused
     × Refuses ending errors.old errors.new errors.has_failed
 EndsFor (Some Run) ending Unused reader writer errors = RanOut ending Unused errors
@@ -93,7 +93,7 @@ EndsFor (Some (Tell asked)) ending Unused reader writer errors = RanOut ending U
     ⊎ EndsTell asked ending reader writer errors
 
 -- how it ends where there are no words, since memory ran out or one is no UTF-8
-abbrev pub EndsUnread : ErrorKind → Ending → Type 0 → Taken → Type 0
+abbrev pub EndsUnread : ErrorKind → Ending → Type 0 → WriterUse → Type 0
 EndsUnread kind ending Unused errors = Unused
     × (kind ≡ io_kind.OutOfMemory → TellsOutOfMemory ending errors.old errors.new errors.has_failed)
     × (kind ≢ io_kind.OutOfMemory → (ending ≡ Refused)

@@ -4,7 +4,7 @@
 ghost use Rattle.std.specs.Prelude.{◌≡◌, Option, false, true, map, IfOk, IfErr};
 ghost use Rattle.std.specs.IoError.{error_kind};
 ghost use Rattle.mapdb_program.specs.Commands.{job_in};
-ghost use Rattle.mapdb_program.specs.Ends.{EndsFor, EndsUnread, given, taken};
+ghost use Rattle.mapdb_program.specs.Ends.{EndsFor, EndsUnread, reader_use, writer_use};
 ghost use Rattle.mapdb_program.specs.declared.commands.Job.{Job};
 
 use crate::endings::Ending;
@@ -59,13 +59,13 @@ fn end_by<T: AllocGlobal + Threads + Wait + Sync, R: Source, W: Sink, E: Sink>(
     ensures words { IfOk words (λ list. EndsFor
         (job_in (map ⟦<String as AsStr>⟧.text list.items)) result.ending
         ((reader.new ≡ reader.old) × (writer.new ≡ writer.old))
-        (given (R.left reader.old) (R.left reader.new) (R.has_ended reader.new)
+        (reader_use (R.left reader.old) (R.left reader.new) (R.has_ended reader.new)
         (R.has_failed reader.new))
-        (taken (W.written writer.old) (W.written writer.new) (W.has_failed writer.new))
-        (taken (E.written errors.old) (E.written errors.new) (E.has_failed errors.new))) }
+        (writer_use (W.written writer.old) (W.written writer.new) (W.has_failed writer.new))
+        (writer_use (E.written errors.old) (E.written errors.new) (E.has_failed errors.new))) }
     ensures unread { IfErr words (λ error. EndsUnread (error_kind error) result.ending
         ((reader.new ≡ reader.old) × (writer.new ≡ writer.old))
-        (taken (E.written errors.old) (E.written errors.new) (E.has_failed errors.new))) }
+        (writer_use (E.written errors.old) (E.written errors.new) (E.has_failed errors.new))) }
     ensures once { R.has_failed reader.new ≡ true
         → R.has_ended reader.new ≡ R.has_ended reader.old }
 {
@@ -92,10 +92,10 @@ pub fn start<T: AllocGlobal + Threads + Wait + Sync, V: Env + AllocGlobal, R: So
     requires writer_works { W.has_failed writer.old ≡ false }
     ensures ends { (job : Option Job) × EndsFor job result.ending
         ((reader.new ≡ reader.old) × (writer.new ≡ writer.old))
-        (given (R.left reader.old) (R.left reader.new) (R.has_ended reader.new)
+        (reader_use (R.left reader.old) (R.left reader.new) (R.has_ended reader.new)
         (R.has_failed reader.new))
-        (taken (W.written writer.old) (W.written writer.new) (W.has_failed writer.new))
-        (taken (⟦<ToWrite<Stderr> as Sink>⟧.written errors.old)
+        (writer_use (W.written writer.old) (W.written writer.new) (W.has_failed writer.new))
+        (writer_use (⟦<ToWrite<Stderr> as Sink>⟧.written errors.old)
         (⟦<ToWrite<Stderr> as Sink>⟧.written errors.new)
         (⟦<ToWrite<Stderr> as Sink>⟧.has_failed errors.new)) }
     ensures once { R.has_failed reader.new ≡ true

@@ -4,7 +4,8 @@ ghost use Rattle.std.specs.Prelude.{◌≡◌, ◌≢◌, false, true, map};
 ghost use Rattle.std.specs.declared.io.ErrorKind.TheVariants as io_kind;
 ghost use Rattle.clap.specs.Words.{kind_of};
 ghost use Rattle.mapdb_program.specs.Commands.{job_in};
-ghost use Rattle.mapdb_program.specs.Ends.{EndsFor, EndsRun, EndsTell, EndsThreads, given, taken};
+ghost use Rattle.mapdb_program.specs.Ends.{EndsFor, EndsRun, EndsTell, EndsThreads, reader_use};
+ghost use Rattle.mapdb_program.specs.Ends.{writer_use};
 ghost use Rattle.mapdb_program.specs.Snapshots.{snapshot_ending};
 ghost use Rattle.mapdb_program.specs.Statuses.{IsTold, Refuses, TellsOutOfMemory, ending_of};
 ghost use Rattle.mapdb_program.specs.Statuses.{fault_ending, words_message};
@@ -120,10 +121,10 @@ fn serve_script<R: Source, W: Sink, E: Sink>(
     requires reader_works { R.has_failed reader.old ≡ false }
     requires writer_works { W.has_failed writer.old ≡ false }
     ensures ends { EndsRun result
-        (given (R.left reader.old) (R.left reader.new) (R.has_ended reader.new)
+        (reader_use (R.left reader.old) (R.left reader.new) (R.has_ended reader.new)
         (R.has_failed reader.new))
-        (taken (W.written writer.old) (W.written writer.new) (W.has_failed writer.new))
-        (taken (E.written errors.old) (E.written errors.new) (E.has_failed errors.new)) }
+        (writer_use (W.written writer.old) (W.written writer.new) (W.has_failed writer.new))
+        (writer_use (E.written errors.old) (E.written errors.new) (E.has_failed errors.new)) }
     ensures once { R.has_failed reader.new ≡ true
         → R.has_ended reader.new ≡ R.has_ended reader.old }
 {
@@ -145,10 +146,10 @@ fn serve_threads<T: Threads + Wait + Sync, R: Source, W: Sink, E: Sink>(
     requires reader_works { R.has_failed reader.old ≡ false }
     requires writer_works { W.has_failed writer.old ≡ false }
     ensures ends { EndsThreads capacity result
-        (given (R.left reader.old) (R.left reader.new) (R.has_ended reader.new)
+        (reader_use (R.left reader.old) (R.left reader.new) (R.has_ended reader.new)
         (R.has_failed reader.new))
-        (taken (W.written writer.old) (W.written writer.new) (W.has_failed writer.new))
-        (taken (E.written errors.old) (E.written errors.new) (E.has_failed errors.new)) }
+        (writer_use (W.written writer.old) (W.written writer.new) (W.has_failed writer.new))
+        (writer_use (E.written errors.old) (E.written errors.new) (E.has_failed errors.new)) }
     ensures once { R.has_failed reader.new ≡ true
         → R.has_ended reader.new ≡ R.has_ended reader.old }
 {
@@ -181,10 +182,10 @@ fn serve_snapshot<R: Source, W: Sink, E: Sink>(
     requires reader_works { R.has_failed reader.old ≡ false }
     requires writer_works { W.has_failed writer.old ≡ false }
     ensures ends { EndsTell asked result
-        (given (R.left reader.old) (R.left reader.new) (R.has_ended reader.new)
+        (reader_use (R.left reader.old) (R.left reader.new) (R.has_ended reader.new)
         (R.has_failed reader.new))
-        (taken (W.written writer.old) (W.written writer.new) (W.has_failed writer.new))
-        (taken (E.written errors.old) (E.written errors.new) (E.has_failed errors.new)) }
+        (writer_use (W.written writer.old) (W.written writer.new) (W.has_failed writer.new))
+        (writer_use (E.written errors.old) (E.written errors.new) (E.has_failed errors.new)) }
     ensures once { R.has_failed reader.new ≡ true
         → R.has_ended reader.new ≡ R.has_ended reader.old }
 {
@@ -209,10 +210,10 @@ pub fn serve<T: AllocGlobal + Threads + Wait + Sync, S: AsStr, R: Source, W: Sin
     requires writer_works { W.has_failed writer.old ≡ false }
     ensures ends { EndsFor (job_in (map S.text words.now)) result
         ((reader.new ≡ reader.old) × (writer.new ≡ writer.old))
-        (given (R.left reader.old) (R.left reader.new) (R.has_ended reader.new)
+        (reader_use (R.left reader.old) (R.left reader.new) (R.has_ended reader.new)
         (R.has_failed reader.new))
-        (taken (W.written writer.old) (W.written writer.new) (W.has_failed writer.new))
-        (taken (E.written errors.old) (E.written errors.new) (E.has_failed errors.new)) }
+        (writer_use (W.written writer.old) (W.written writer.new) (W.has_failed writer.new))
+        (writer_use (E.written errors.old) (E.written errors.new) (E.has_failed errors.new)) }
     ensures once { R.has_failed reader.new ≡ true
         → R.has_ended reader.new ≡ R.has_ended reader.old }
 {
