@@ -44,12 +44,6 @@ front_told asked (Err Read) input whole front Over over is written = absurd writ
 front_told asked (Err TooLong) input whole front Over over is written = absurd written
 front_told asked (Err (Load fault)) input whole front Over over is written = absurd written
 
--- what a failed read tells
-pub told_read : {A : Type 0} (P : A → Type 0) (result : Result A TellFault) (input : List ℕ) → length input ≤ line_limit → IsErr result → IsErrAnd result (λ (why : TellFault). why ≡ Read)
-    → IfOk result P × IfErr result (λ (why : TellFault). IsUnread why input)
-told_read P (Ok a) input short h k = absurd (false≢true h)
-told_read P (Err why) input short h k = (tt, subst (λ (x : TellFault). IsUnread x input) (sym k) short)
-
 -- what running out of memory tells
 pub told_memory : {A : Type 0} (P : A → Type 0) (result : Result A TellFault) (input : List ℕ) → IsLittle input → IsErr result → IsErrAnd result (λ (why : TellFault). why ≡ tell_out_of_memory)
     → IfOk result P × IfErr result (λ (why : TellFault). IsUnread why input)

@@ -9,7 +9,7 @@ ghost use Rattle.mapdb_program.specs.Snapshots.{IsFront, IsUnread, TellsSnapshot
 ghost use Rattle.mapdb_program.specs.Statuses.{Blames};
 
 use mapdb_facts::Space;
-use mapdb_lines::{Failed, MOST_LINE_BYTES, READ_AHEAD, Sink, Source, write_all};
+use mapdb_lines::{MOST_LINE_BYTES, READ_AHEAD, Sink, Source, write_all};
 use mapdb_picture::{LoadFault, snapshot_explanation, snapshot_picture};
 use std::alloc::{AllocError, Global};
 
@@ -62,18 +62,6 @@ impl From<LoadFault> for TellFault {
     }
 }
 
-/// Of reads alone: a write that failed is told as [`TellFault::Write`] where it is made.
-impl From<Failed> for TellFault {
-    ghost use Rattle.std.specs.Prelude.{◌≡◌};
-    ghost use Rattle.mapdb_program.specs.declared.snapshots.TellFault.TheVariants.{Read};
-
-    ghost from_gives = { λ _ fault. fault ≡ Read };
-
-    fn from(_failed: Failed) -> TellFault {
-        TellFault::Read
-    }
-}
-
 /// Reads all that is left, which may be as long as a line of a script. It stops where there is
 /// more, and asks a reader that has ended no more.
 fn read_all<R: Source>(alloc: Global, reader: &mut R) -> Result<Vec<u8>, TellFault>
@@ -90,7 +78,10 @@ fn read_all<R: Source>(alloc: Global, reader: &mut R) -> Result<Vec<u8>, TellFau
     let mut piece = vec![in alloc; 0; READ_AHEAD]?;
     let mut input = Vec::new(alloc);
     'pieces: while input.len() <= MOST_LINE_BYTES {
-        let count = reader.read(piece.as_mut_slice())?;
+        let count = match reader.read(piece.as_mut_slice()) {
+            Ok(count) => count,
+            Err(_) => return Err(TellFault::Read),
+        };
         if count == 0 {
             return Ok(input);
         }
