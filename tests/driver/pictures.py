@@ -1,6 +1,7 @@
 """Pictures of snapshots, and why their pages show what they show: the program writes what the model
 says, byte for byte, and refuses what is no snapshot by its name."""
 
+import re
 import shutil
 from concurrent.futures import ProcessPoolExecutor
 from random import Random
@@ -10,7 +11,7 @@ from driver.drawings import drawings, stored_drawing
 from driver.program import Outcome, Program, difference
 from driver.quick import QuickProgram
 from driver.snapshots import (
-    faulty_texts, odd_texts, stored_scripts, texts_of_seed, texts_of_stored,
+    children_of_none, faulty_texts, odd_texts, stored_scripts, texts_of_seed, texts_of_stored,
 )
 from driver.tally import Met, Tally
 from driver.words import helps, refused_words
@@ -28,6 +29,9 @@ SHORT_PAGES, LONG_PAGES = 6, 40
 BATCH = 20
 STRANGER = Space(4097, 3)
 PAGE = ["1", "41000"]
+NODE = re.compile(rb'"([0-9.]+)" \[label=')
+CHILDREN = 2000
+BYTES_OF_ONE = 150
 
 
 class Batch(NamedTuple):
@@ -142,6 +146,19 @@ def refusals(program: AnyProgram) -> Iterator[Met]:
             yield Met(found == wanted, "%s: %s" % (name, arguments[0]), difference(wanted, found))
 
 
+def children_case(program: AnyProgram) -> Met:
+    """Each name has one node, and each run one line, also where many records have one parent that
+    is not held, and of which many runs are revoked: the text grows as the snapshot does."""
+    found = program.run(["picture"], children_of_none(CHILDREN), LIMIT)
+    nodes, runs = NODE.findall(found.output), found.output.count(b"\\nrevoked ")
+    names = [b"%d.0" % number for number in range(CHILDREN + 2)]
+    holds = sorted(nodes) == sorted(names) and runs == CHILDREN and found.status == 0
+    return Met(holds and len(found.output) <= 2 * CHILDREN * BYTES_OF_ONE,
+               "%d records of one parent that is not held" % CHILDREN,
+               "%d nodes of %d names, %d runs, %d bytes, status %s" % (
+                   len(nodes), len(set(nodes)), runs, len(found.output), found.status))
+
+
 # All of it
 
 
@@ -166,6 +183,7 @@ def run_pictures(program: Program, short: bool, jobs: int) -> Tally:
     texts = check_scripts(tally, program.path, short, jobs)
     for name, text in odd_texts():
         tally.check_all(look_at(quick, name, text, SHORT_PAGES))
+    tally.check(children_case(quick))
     tally.check_all(refusals(quick))
     tally.check_all(refused_words(program))
     tally.check_all(helps(program))

@@ -76,6 +76,14 @@ def with_record(**fields: int) -> bytes:
     return text_with(records=[row])
 
 
+def children_of_none(count: int) -> bytes:
+    """A snapshot of so many records whose parent, `1.0`, is not held, and of as many runs of pages
+    from which rights of that name are revoked."""
+    cuts = [[1, 0, 2 * index, 12, 1] for index in range(count)]
+    records = [[2 + index, 0, 1, 0, index, 12, 1, 0, index, 7] for index in range(count)]
+    return text_with(cuts=cuts, records=records)
+
+
 FIELDS = """
     number processor space space_version page order parent_number parent_processor source rights
 """.split()
@@ -178,4 +186,5 @@ def odd_texts() -> list[tuple[str, bytes]]:
         ("a page that was handed on through 60 spaces", text_with(
             cuts=[], ended=[], records=[
                 [number, 0, number, 0, 65, 12, number - 1, 0, 65, 7] for number in range(1, 61)])),
+        ("a parent of 40 records that is not held", children_of_none(40)),
     ]

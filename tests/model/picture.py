@@ -92,17 +92,19 @@ def boxed(space: Space, inside: str) -> str:
         space.number, space.version, spell_space(space), inside)
 
 
-def if_absent(facts: Facts, name: Name) -> str:
-    return "" if is_known(facts, name) else node(facts, name, False) + "\n"
-
-
 def record_lines(facts: Facts, record: Record) -> str:
-    """The record in its space's box, its parent if that is not held, and the line between."""
+    """The record in its space's box, and the line from its parent."""
     is_solid = is_known(facts, record.parent)
     edge = '"%s" -> "%s" [style=%s];\n' % (
         spell_name(record.parent), spell_name(record.name), style(is_solid))
-    own = boxed(record.space, node(facts, record.name, is_solid))
-    return own + if_absent(facts, record.parent) + edge
+    return boxed(record.space, node(facts, record.name, is_solid)) + edge
+
+
+def absent_names(facts: Facts) -> list[Name]:
+    """The names that are not held, of parents or with something revoked, in order."""
+    parents = {record.parent for record in facts.records.values()}
+    return sorted(name for name in parents | set(facts.all_cut_runs())
+                  if not is_known(facts, name))
 
 
 def ended_line(space: Space) -> str:
@@ -111,11 +113,11 @@ def ended_line(space: Space) -> str:
 
 
 def picture(facts: Facts) -> str:
-    """The root, the records in order of name, the names of which something is revoked although
-    they are not held, and the spaces that have ended, in order."""
+    """The root, the records, the names that are not held, and the spaces that have ended, each in
+    order."""
     parts = [HEAD, boxed(MEMORY, node(facts, ROOT, True))]
     parts += [record_lines(facts, record) for _, record in sorted(facts.records.items())]
-    parts += [if_absent(facts, name) for name in facts.all_cut_runs()]
+    parts += [node(facts, name, False) + "\n" for name in absent_names(facts)]
     parts += [ended_line(space) for space in sorted(facts.ended)]
     return "".join(parts) + "}\n"
 

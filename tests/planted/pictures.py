@@ -6,7 +6,7 @@ from typing import Callable, Iterable
 from unittest import mock
 
 from driver.drawings import drawing, stored_drawing
-from driver.pictures import look_at, refusals
+from driver.pictures import children_case, look_at, refusals
 from driver.program import Program
 from driver.rows import run_script
 from driver.snapshots import GOOD
@@ -34,6 +34,11 @@ def good_cases(program: Program) -> list[Met]:
     return look_at(program, "one record", GOOD, MOST)
 
 
+def many_case(program: Program) -> list[Met]:
+    """Many records of one parent that is not held."""
+    return [children_case(program)]
+
+
 def nothing_case(program: Program) -> list[Met]:
     """A page that no record has."""
     return [run_script(program, script_of("explain_nothing"))]
@@ -58,6 +63,8 @@ PROGRAMS = [
      '"$program" "$@" | sed s/grey/white/'),
     ("a record that is left out", "all kinds: picture: reply [0-9]*: ", text_cases,
      '"$program" "$@" | sed "/^.2\\.0. -> .4\\.0/d"'),
+    ("a node that is told twice", "2000 records of one parent .*: 2003 nodes of 2002 names, ",
+     many_case, """"$program" "$@" | sed '/^"1\\.0" \\[/p'"""),
     ("a page that another one is asked for", "one record: explain 1 [0-9A-Fa-f]*: reply ",
      good_cases, 'if [ "$1" = explain ]; then set -- explain "$2" 40000; fi; "$program" "$@"'),
     ("a chain without its end", "all kinds: explain .*: reply [0-9]*: wanted b'  0.0 space 0",
@@ -106,6 +113,8 @@ MODELS = [
     ("a record is dashed that is held", "all kinds: picture: ", "style", lambda is_solid: "dashed"),
     ("a name that is held is told as one that is not", "all kinds: picture: ", "is_known",
      lambda facts, name: False),
+    ("a parent that is not held has something revoked", "all kinds: picture: ", "absent_names",
+     lambda facts: [name for name in facts.all_cut_runs() if not picture.is_known(facts, name)]),
     ("the page behind a run is its last", "all kinds: picture: ", "revoked_lines",
      lambda facts, name: ["revoked %05x-%05x %s" % (*run, picture.spell_rights(rights))
                           for run, rights in facts.cut_runs(name)]),
@@ -121,9 +130,9 @@ MODELS = [
 
 
 def pictures_faults() -> list[Fault]:
-    named = [("all kinds", text_cases), ("one record", good_cases), ("nothing", nothing_case),
-             ("README", stored_case), ("refusals", refusals), ("words", refused_words),
-             ("help", helps)]
+    named = [("all kinds", text_cases), ("one record", good_cases), ("many records", many_case),
+             ("nothing", nothing_case), ("README", stored_case), ("refusals", refusals),
+             ("words", refused_words), ("help", helps)]
     programs = PROGRAMS + ([] if shutil.which("dot") is None else DRAWN)
     return [
         as_it_is(name, cases) for name, cases in named

@@ -7,23 +7,27 @@ use Rattle.mapdb_facts.specs.declared.names.RecordId.{RecordId}
 use Rattle.mapdb_facts.specs.declared.operations.Record.{Record}
 use Rattle.mapdb_rights.specs.Right.{reaches, source_page}
 use Rattle.mapdb_rights.proofs.Rights.Steps.{earlier}
-use Rattle.mapdb_picture.specs.Chain.{Spot, chain, chain_within, chained, source_in, step_up}
+use Rattle.mapdb_picture.specs.declared.steps.Spot.{Spot}
+use Rattle.mapdb_picture.specs.Chain.{chain, chain_within, chained, source_in, step_up}
+
+abbrev spot_of : RecordId → ℕ → Spot
+spot_of id page = record { id = id; page = page }
 
 -- a source has a lesser number
-source_earlier : (id : RecordId) (o : Option Record) (page : ℕ) (source : Spot) → source_in id o page ≡ Some source → source.0.number < id.number
+source_earlier : (id : RecordId) (o : Option Record) (page : ℕ) (source : Spot) → source_in id o page ≡ Some source → source.id.number < id.number
 source_earlier id None page source e = cc
 source_earlier id (Some r) page source e = by (reaches id r page) refl e
   where
-    by : (t : Bool) → reaches id r page ≡ t → (let o : Option Spot = if t then Some (r.parent, source_page r page) else None in o ≡ Some source) → source.0.number < id.number
-    by true h e = let same : (r.parent, source_page r page) ≡ source = cc in let less = earlier id r page h in omega (arith, ap (λ (s : Spot). s.0.number) same)
+    by : (t : Bool) → reaches id r page ≡ t → (let o : Option Spot = if t then Some (spot_of r.parent (source_page r page)) else None in o ≡ Some source) → source.id.number < id.number
+    by true h e = let same : spot_of r.parent (source_page r page) ≡ source = cc in let less = earlier id r page h in omega (arith, ap (λ (s : Spot). s.id.number) same)
     by false h e = cc
 
-pub step_earlier : (S : State) (spot source : Spot) → step_up S spot ≡ Some source → source.0.number < spot.0.number
-step_earlier S spot source e = by (is_root spot.0) e
+pub step_earlier : (S : State) (spot source : Spot) → step_up S spot ≡ Some source → source.id.number < spot.id.number
+step_earlier S spot source e = by (is_root spot.id) e
   where
-    by : (t : Bool) → (let o : Option Spot = if t then None else source_in spot.0 (S.record_at spot.0) spot.1 in o ≡ Some source) → source.0.number < spot.0.number
+    by : (t : Bool) → (let o : Option Spot = if t then None else source_in spot.id (S.record_at spot.id) spot.page in o ≡ Some source) → source.id.number < spot.id.number
     by true e = cc
-    by false e = source_earlier spot.0 (S.record_at spot.0) spot.1 source e
+    by false e = source_earlier spot.id (S.record_at spot.id) spot.page source e
 
 -- only the rest from a source on matters
 rest_same : (f g : Spot → List Spot) (spot : Spot) (o : Option Spot) → ((source : Spot) → o ≡ Some source → f source ≡ g source)
@@ -31,7 +35,7 @@ rest_same : (f g : Spot → List Spot) (spot : Spot) (o : Option Spot) → ((sou
 rest_same f g spot None same = refl
 rest_same f g spot (Some source) same = ap (λ (rest : List Spot). spot ∷ rest) (same source refl)
 
-steps_same : (n m : ℕ) (S : State) (spot : Spot) → spot.0.number ≤ n → spot.0.number ≤ m → chain_within n S spot ≡ chain_within m S spot
+steps_same : (n m : ℕ) (S : State) (spot : Spot) → spot.id.number ≤ n → spot.id.number ≤ m → chain_within n S spot ≡ chain_within m S spot
 steps_same zero zero S spot below_n below_m = refl
 steps_same zero (suc m) S spot below_n below_m =
     rest_same (λ _. []) (chain_within m S) spot (step_up S spot) (λ source e. let less = step_earlier S spot source e in absurd (omega arith))
@@ -41,18 +45,18 @@ steps_same (suc n) (suc m) S spot below_n below_m =
     rest_same (chain_within n S) (chain_within m S) spot (step_up S spot)
     (λ source e. let less = step_earlier S spot source e in steps_same n m S source (omega arith) (omega arith))
 
-chain_is : (n : ℕ) (S : State) (spot : Spot) → spot.0.number ≤ n → chain_within n S spot ≡ chained (λ source. chain_within source.0.number S source) spot (step_up S spot)
+chain_is : (n : ℕ) (S : State) (spot : Spot) → spot.id.number ≤ n → chain_within n S spot ≡ chained (λ source. chain_within source.id.number S source) spot (step_up S spot)
 chain_is zero S spot below =
-    rest_same (λ _. []) (λ source. chain_within source.0.number S source) spot (step_up S spot)
+    rest_same (λ _. []) (λ source. chain_within source.id.number S source) spot (step_up S spot)
     (λ source e. let less = step_earlier S spot source e in absurd (omega arith))
 chain_is (suc n) S spot below =
-    rest_same (chain_within n S) (λ source. chain_within source.0.number S source) spot (step_up S spot)
-    (λ source e. let less = step_earlier S spot source e in steps_same n source.0.number S source (omega arith) (omega arith))
+    rest_same (chain_within n S) (λ source. chain_within source.id.number S source) spot (step_up S spot)
+    (λ source e. let less = step_earlier S spot source e in steps_same n source.id.number S source (omega arith) (omega arith))
 
 -- the definition of the chain, with no count of steps
 pub chain_step : (S : State) (spot : Spot) → chain S spot ≡ chained (chain S) spot (step_up S spot)
 unfolding chain
-chain_step S spot = chain_is spot.0.number S spot (omega arith)
+chain_step S spot = chain_is spot.id.number S spot (omega arith)
 
 -- what is left of the chain
 abbrev pub chain_from : State → Option Spot → List Spot

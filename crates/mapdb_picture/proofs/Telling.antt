@@ -2,7 +2,6 @@
 use Rattle.std.proofs.Common.{◌≡◌, ℕ, true, false, List, [], ◌∷◌, ◌++◌, length, refl, sym, ap, ◌∙◌, append_assoc, arith}
 use Rattle.std.specs.Prelude.{codes, flat_map, nat_eq}
 use Rattle.std.proofs.lemmas.Bool.{eqb-true}
-use Rattle.std.proofs.lemmas.List.{append-nil}
 use Rattle.mapdb_facts.specs.Facts.{records_of_facts, state_of_facts}
 use Rattle.mapdb_facts.specs.Records.{records_of}
 use Rattle.mapdb_facts.specs.State.{State, state_of}
@@ -14,7 +13,7 @@ use Rattle.mapdb_facts.proofs.RecordLemmas.Listed.{records_of-facts}
 use Rattle.mapdb_snapshot.specs.Cutting.{cut_names}
 use Rattle.mapdb_snapshot.specs.Snapshot.{ended_of}
 use Rattle.mapdb_picture.specs.Explanation.{block_of, explanation_of, explanation_text, or_nothing, root_block}
-use Rattle.mapdb_picture.specs.Picture.{ended_line, graph_of, if_absent, picture_of, picture_text, record_lines, root_line}
+use Rattle.mapdb_picture.specs.Picture.{ended_line, graph_of, if_absent, picture_of, picture_text, record_lines, referred_names, root_line}
 
 -- one piece more, and those that are left
 pub told : {A : Type 0} (f : A → List ℕ) (old new all : List ℕ) (x : A) (xs left : List A) → new ≡ old ++ f x → left ≡ x ∷ xs
@@ -45,7 +44,8 @@ explanation_is facts ops space page first blocks text whole state is_first are_b
 pub picture_is : (facts : Facts) (ops given : List Op) (first records absent ended whole : List ℕ)
     → state_of_facts facts ≡ state_of ops → given ≡ ops → first ≡ root_line (state_of_facts facts)
     → records ≡ flat_map (record_lines (state_of_facts facts)) (records_of_facts facts)
-    → absent ≡ flat_map (if_absent (state_of_facts facts)) (cut_names given) → ended ≡ flat_map ended_line (ended_of given)
+    → absent ≡ flat_map (if_absent (state_of_facts facts)) (referred_names (records_of_facts facts) (cut_names given))
+    → ended ≡ flat_map ended_line (ended_of given)
     → whole ≡ graph_of first records absent ended → whole ≡ picture_text ops
 picture_is facts ops given first records absent ended whole state same is_first are_records are_absent are_ended all =
     all ∙ (λ i. graph_of (is_first i) (are_records i) (are_absent i) (are_ended i))

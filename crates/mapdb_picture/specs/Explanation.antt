@@ -15,9 +15,10 @@ use Rattle.mapdb_facts.specs.declared.names.Space.{Space}
 use Rattle.mapdb_facts.specs.declared.operations.Op.{Op}
 use Rattle.mapdb_facts.specs.declared.operations.Record.{Record}
 use Rattle.mapdb_rights.specs.Right.{source_page}
-use Rattle.mapdb_picture.specs.Chain.{Spot, chain}
+use Rattle.mapdb_picture.specs.Chain.{chain}
 use Rattle.mapdb_picture.specs.Labels.{held_text, place_text, source_text}
 use Rattle.mapdb_lines.specs.Shown.{frame_text, name_text, space_text}
+use Rattle.mapdb_picture.specs.declared.steps.Spot.{Spot}
 
 -- a space, and whether it has ended
 abbrev pub space_state : State → Space → List ℕ
@@ -59,8 +60,8 @@ root_step S id page =
 -- what a step of a chain tells
 abbrev pub step_text : State → Spot → List ℕ
 step_text S spot =
-    if is_root spot.0 then root_step S spot.0 spot.1
-    else record_step S spot.0 (S.record_at spot.0) spot.1
+    if is_root spot.id then root_step S spot.id spot.page
+    else record_step S spot.id (S.record_at spot.id) spot.page
 
 -- a step as a line
 abbrev pub step_line : State → Spot → List ℕ
@@ -74,7 +75,7 @@ chain_text S spot = flat_map (step_line S) (chain S spot)
 abbrev pub block : State → RecordId → ℕ → List ℕ
 block S id page =
     codes "record " ++ (name_text id ++ (codes "\n"
-    ++ (chain_text S (id, page) ++ (held_text S id page ++ codes "\n"))))
+    ++ (chain_text S (record { id = id; page = page }) ++ (held_text S id page ++ codes "\n"))))
 
 -- of a record of the space that holds the page, its block
 abbrev pub block_of : State → Space → ℕ → Record → List ℕ

@@ -1,8 +1,11 @@
 -- The Graphviz text of what a copy holds: each space is a box, each record stands in the box of its
 -- space, and a line leads to it from the record that its pages come from. A record whose parent is
--- not held is dashed, and so is that parent. The box of a space that has ended is grey.
-use Rattle.std.specs.Prelude.{ℕ, Bool, ◌||◌, List, [], ◌++◌, is_some, codes, decimal}
-use Rattle.std.specs.Prelude.{flat_map, if◌then◌else◌}
+-- not held is dashed, and so is that parent. The box of a space that has ended is grey. Each name
+-- has one node.
+use Rattle.std.specs.Prelude.{ℕ, Bool, ◌||◌, List, [], ◌∷◌, ◌++◌, is_some, codes, decimal}
+use Rattle.std.specs.Prelude.{flat_map, map, if◌then◌else◌}
+use Rattle.std.specs.BTreeSet.{insert_key}
+use Rattle.mapdb_facts.specs.Kept.{id_cmp}
 use Rattle.mapdb_facts.specs.Names.{first_space, is_root, root}
 use Rattle.mapdb_facts.specs.Records.{records_of}
 use Rattle.mapdb_facts.specs.State.{State, state_of}
@@ -53,7 +56,7 @@ style_under S parent = if is_known S parent then Solid else Dashed
 abbrev pub absent_line : State → RecordId → List ℕ
 absent_line S id = node_text id (absent_label S id) Dashed ++ codes "\n"
 
--- a name that is none of a held record's, as the parent of one, or with rights revoked
+-- nothing where the root, or a record that is held, has the name
 abbrev pub if_absent : State → RecordId → List ℕ
 if_absent S id = if is_known S id then [] else absent_line S id
 
@@ -61,7 +64,16 @@ if_absent S id = if is_known S id then [] else absent_line S id
 -- held
 abbrev pub record_lines : State → Record → List ℕ
 record_lines S r = boxed r.space (node_text r.id (record_label S r) (style_under S r.parent))
-    ++ (if_absent S r.parent ++ edge_text r.parent r.id (style_under S r.parent))
+    ++ edge_text r.parent r.id (style_under S r.parent)
+
+-- names in ascending order, each once
+abbrev pub sorted_names : List RecordId → List RecordId
+sorted_names [] = []
+sorted_names (id ∷ ids) = insert_key id_cmp (sorted_names ids) id
+
+-- these names and those of the parents of records, in ascending order, each once
+abbrev pub referred_names : List Record → List RecordId → List RecordId
+referred_names records names = sorted_names (map (λ (r : Record). r.parent) records ++ names)
 
 -- what makes a box grey, and says why
 abbrev pub ended_mark : Space → List ℕ
@@ -83,11 +95,12 @@ graph_of first records absent ended =
     codes "digraph mapdb {\nrankdir=LR;\nnode [shape=box];\n"
     ++ (first ++ (records ++ (absent ++ (ended ++ codes "}\n"))))
 
--- the picture of records, of those of these names that are not held, and of spaces that have ended
+-- the picture of records, of those of their parents' names and of these that are not held, and of
+-- spaces that have ended
 abbrev pub picture_of : State → List Record → List RecordId → List Space → List ℕ
 picture_of S records names spaces =
-    graph_of (root_line S) (flat_map (record_lines S) records) (flat_map (if_absent S) names)
-    (flat_map ended_line spaces)
+    graph_of (root_line S) (flat_map (record_lines S) records)
+    (flat_map (if_absent S) (referred_names records names)) (flat_map ended_line spaces)
 
 -- the picture of what these operations say together
 abbrev pub picture_text : List Op → List ℕ

@@ -9,7 +9,7 @@ ghost use Rattle.mapdb_picture.specs.Explanation.{outside_text, record_step, roo
 ghost use Rattle.mapdb_picture.specs.Explanation.{space_state, spot_text, step_line, step_text};
 
 use crate::labels::{place_text, source_text};
-use crate::steps::step_up;
+use crate::steps::{Spot, step_up};
 use mapdb_facts::{Facts, Record, RecordId, Space};
 use mapdb_fpage::Rights;
 use mapdb_lines::{frame_text, letters, name_text, space_text};
@@ -116,41 +116,33 @@ fn root_step(alloc: Global, facts: &Facts, id: RecordId, page: u64) -> Result<St
 }
 
 /// What a step of a chain tells.
-fn step_text(alloc: Global, facts: &Facts, id: RecordId, page: u64) -> Result<String, AllocError>
-    ensures { IfOk result (λ text. string_bytes text
-        ≡ step_text (state_of_facts facts.now) (id, page)) }
+fn step_text(alloc: Global, facts: &Facts, spot: Spot) -> Result<String, AllocError>
+    ensures { IfOk result (λ text. string_bytes text ≡ step_text (state_of_facts facts.now) spot) }
 {
-    if id.is_root() {
-        root_step(alloc, facts, id, page)
+    if spot.id.is_root() {
+        root_step(alloc, facts, spot.id, spot.page)
     } else {
-        record_step(alloc, facts, id, page)
+        record_step(alloc, facts, spot.id, spot.page)
     }
 }
 
 /// A step as a line.
-fn step_line(alloc: Global, facts: &Facts, id: RecordId, page: u64) -> Result<String, AllocError>
-    ensures { IfOk result (λ text. string_bytes text
-        ≡ step_line (state_of_facts facts.now) (id, page)) }
+fn step_line(alloc: Global, facts: &Facts, spot: Spot) -> Result<String, AllocError>
+    ensures { IfOk result (λ text. string_bytes text ≡ step_line (state_of_facts facts.now) spot) }
 {
-    let step = step_text(alloc, facts, id, page)?;
+    let step = step_text(alloc, facts, spot)?;
     format!(in alloc; "  {step}\n")
 }
 
 /// The lines of the chain from a page of a record on.
-pub fn chain_text(
-    alloc: Global,
-    facts: &Facts,
-    id: RecordId,
-    page: u64,
-) -> Result<String, AllocError>
-    ensures { IfOk result (λ text. string_bytes text
-        ≡ chain_text (state_of_facts facts.now) (id, page)) }
+pub fn chain_text(alloc: Global, facts: &Facts, from: Spot) -> Result<String, AllocError>
+    ensures { IfOk result (λ text. string_bytes text ≡ chain_text (state_of_facts facts.now) from) }
 {
     let mut text = String::new(alloc);
-    let mut spot = Some((id, page));
+    let mut spot = Some(from);
     'up: while let Some(at) = spot {
-        text.push_str(step_line(alloc, facts, at.0, at.1)?.as_str())?;
-        spot = step_up(facts, at.0, at.1);
+        text.push_str(step_line(alloc, facts, at)?.as_str())?;
+        spot = step_up(facts, at);
     }
     Ok(text)
 }

@@ -7,6 +7,7 @@ ghost use Rattle.mapdb_picture.specs.Explanation.{root_block};
 
 use crate::chains::chain_text;
 use crate::labels::held_text;
+use crate::steps::Spot;
 use mapdb_facts::{Facts, Record, RecordId, Space};
 use mapdb_fpage::PAGE_LIMIT;
 use mapdb_lines::name_text;
@@ -18,7 +19,7 @@ fn block(alloc: Global, facts: &Facts, id: RecordId, page: u64) -> Result<String
     ensures { IfOk result (λ text. string_bytes text ≡ block (state_of_facts facts.now) id page) }
 {
     let name = name_text(alloc, id)?;
-    let chain = chain_text(alloc, facts, id, page)?;
+    let chain = chain_text(alloc, facts, Spot { id, page })?;
     let held = held_text(alloc, facts, id, page)?;
     format!(in alloc; "record {name}\n{chain}{held}\n")
 }

@@ -6,8 +6,8 @@ ghost use Rattle.mapdb_snapshot.specs.Cutting.{cut_names};
 ghost use Rattle.mapdb_snapshot.specs.Snapshot.{ended_of};
 ghost use Rattle.mapdb_picture.specs.Picture.{absent_line, boxed, edge_text, ended_line};
 ghost use Rattle.mapdb_picture.specs.Picture.{ended_mark, graph_of, if_absent, is_known};
-ghost use Rattle.mapdb_picture.specs.Picture.{node_text, picture_text, record_lines, root_line};
-ghost use Rattle.mapdb_picture.specs.Picture.{style_text, style_under};
+ghost use Rattle.mapdb_picture.specs.Picture.{node_text, picture_text, record_lines};
+ghost use Rattle.mapdb_picture.specs.Picture.{referred_names, root_line, style_text, style_under};
 
 use crate::labels::{absent_label, record_label, root_label};
 use mapdb_facts::{Facts, Op, Record, RecordId, Space};
@@ -15,6 +15,7 @@ use mapdb_lines::{name_text, space_text};
 use mapdb_replica::Replica;
 use mapdb_snapshot::{cut_names, ended_spaces};
 use std::alloc::{AllocError, Global};
+use std::collections::BTreeSet;
 
 /// How a line is drawn.
 #[derive(Clone, Copy, Debug, PartialEq, Eq)]
@@ -119,9 +120,8 @@ fn record_lines(alloc: Global, facts: &Facts, mapping: &Record) -> Result<String
     let label = record_label(alloc, facts, mapping)?;
     let node = node_text(alloc, mapping.id, label.as_str(), style)?;
     let space = boxed(alloc, mapping.space, node.as_str())?;
-    let parent = if_absent(alloc, facts, mapping.parent)?;
     let edge = edge_text(alloc, mapping.parent, mapping.id, style)?;
-    format!(in alloc; "{space}{parent}{edge}")
+    format!(in alloc; "{space}{edge}")
 }
 
 /// What makes a box grey, and says why.
@@ -161,12 +161,31 @@ fn all_records(alloc: Global, facts: &Facts) -> Result<String, AllocError>
     Ok(text)
 }
 
-/// The lines of the records that are not held and of which rights are revoked.
+/// The names of which rights are revoked and those of the parents of records, whether such records
+/// are held or not.
+fn referred_names(
+    alloc: Global,
+    facts: &Facts,
+    ops: &[Op],
+) -> Result<BTreeSet<RecordId>, AllocError>
+    ensures { IfOk result (λ names. names.keys
+        ≡ referred_names (records_of_facts facts.now) (cut_names ops.now)) }
+{
+    let mut names = cut_names(alloc, ops)?;
+    for mapping in facts.records() {
+        names.insert(mapping.parent)?;
+    }
+    Ok(names)
+}
+
+/// The lines of the records that are not held, but are parents of some that are, or have rights
+/// revoked, in ascending order of name.
 fn all_absent(alloc: Global, facts: &Facts, ops: &[Op]) -> Result<String, AllocError>
     ensures { IfOk result (λ text. string_bytes text
-        ≡ flat_map (if_absent (state_of_facts facts.now)) (cut_names ops.now)) }
+        ≡ flat_map (if_absent (state_of_facts facts.now))
+        (referred_names (records_of_facts facts.now) (cut_names ops.now))) }
 {
-    let names = cut_names(alloc, ops)?;
+    let names = referred_names(alloc, facts, ops)?;
     let mut text = String::new(alloc);
     for id in &names {
         text.push_str(if_absent(alloc, facts, *id)?.as_str())?;
@@ -206,8 +225,8 @@ fn graph_of(
 /// order of name, with their place and named rights, the page of their parent that they come from,
 /// the rights and the frame that they have at their first page, and what is revoked of them. A
 /// record is dashed whose parent is not held, and so is that parent; the box of a space that has
-/// ended is grey. It depends on what the operations say together alone. The one error is that
-/// memory ran out.
+/// ended is grey. Each name has one node. It depends on what the operations say together alone. The
+/// one error is that memory ran out.
 pub fn picture(alloc: Global, copy: &Replica) -> Result<String, AllocError>
     ensures { IfOk result (λ text. string_bytes text ≡ picture_text copy.now.ops) }
 {

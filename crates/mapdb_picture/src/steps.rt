@@ -7,19 +7,30 @@ ghost use Rattle.mapdb_picture.specs.Chain.{step_up};
 use mapdb_facts::{Facts, RecordId};
 use mapdb_rights::source_of;
 
+/// A page of a record.
+#[derive(Clone, Copy, Debug)]
+pub struct Spot {
+    /// The record's name.
+    pub id: RecordId,
+    /// The page.
+    pub page: u64,
+}
+
 /// The page of the parent that a page of a record comes from: none from the root, and none where
 /// the record is not held, or where the page lies outside of its place.
-pub fn step_up(facts: &Facts, id: RecordId, page: u64) -> Option<(RecordId, u64)>
-    ensures source { result ≡ step_up (state_of_facts facts.now) (id, page) }
-    ensures earlier { IfSome result (λ source. source.0.number < id.number) }
+pub fn step_up(facts: &Facts, spot: Spot) -> Option<Spot>
+    ensures source { result ≡ step_up (state_of_facts facts.now) spot }
+    ensures earlier { IfSome result (λ source. source.id.number < spot.id.number) }
 {
-    if id.is_root() {
+    if spot.id.is_root() {
         return None;
     }
-    let mapping = facts.record(id)?;
-    if !mapping.place.holds(page) {
+    let mapping = facts.record(spot.id)?;
+    if !mapping.place.holds(spot.page) {
         return None;
     }
-    let source = source_of(&mapping, page);
-    Some((mapping.parent, source))
+    Some(Spot {
+        id: mapping.parent,
+        page: source_of(&mapping, spot.page),
+    })
 }

@@ -1,7 +1,7 @@
 use Rattle.std.proofs.Common.{rules, ◌≡◌, ◌∷◌, ◌++◌, ◌∙◌, ap}
 use Rattle.std.specs.Prelude.{Option, string_bytes}
 use Rattle.mapdb_facts.specs.Facts.{state_of_facts}
-use Rattle.mapdb_picture.specs.Chain.{Spot}
+use Rattle.mapdb_picture.specs.declared.steps.Spot.{Spot}
 use Rattle.mapdb_picture.specs.Explanation.{step_line}
 use Rattle.mapdb_picture.proofs.ChainLemmas.{chain_from, chain_next}
 use Rattle.mapdb_picture.proofs.Telling.{told}
