@@ -105,10 +105,10 @@ fn has_script(entries: &[Entry], seat: u32, script: &[Command]) -> bool
 {
     let mut next = 0;
     for entry in entries {
-        if let NodeEvent::Issue(command) = entry.event {
+        if let NodeEvent::Issue(_) = entry.event {
             if next == script.len()
                 || entry.seat != seat
-                || !is_same_command(&command, &script[next])
+                || !entry.event.is(&NodeEvent::Issue(script[next]))
             {
                 return false;
             }
@@ -116,20 +116,6 @@ fn has_script(entries: &[Entry], seat: u32, script: &[Command]) -> bool
         }
     }
     next == script.len()
-}
-
-/// Whether both are one command.
-fn is_same_command(command: &Command, other: &Command) -> bool
-    ensures { IsTrue result → command.now ≡ other.now }
-{
-    is_same_event(&NodeEvent::Issue(*command), &NodeEvent::Issue(*other))
-}
-
-/// Whether both are one event.
-fn is_same_event(event: &NodeEvent, other: &NodeEvent) -> bool
-    ensures { IsTrue result → event.now ≡ other.now }
-{
-    *event == *other
 }
 
 /// Whether each other processor's own operations are what was taken at the seat that hears it.
