@@ -87,7 +87,7 @@ fn found_closed(
 /// The copy of a history without entries.
 fn of_empty(history: History) -> Option<Replica> {
     if history.entries().is_empty() {
-        Some(history.copy)
+        Some(history.into_copy())
     } else {
         None
     }
