@@ -40,8 +40,8 @@ pub(crate) fn agrees(scripts: &[Vec<Command>], parts: &[Part]) -> bool
     if parts.len() != scripts.len() {
         return false;
     }
-    for k in 0..parts.len() {
-        if !is_part(parts, k, scripts[k].as_slice()) {
+    for processor in 0..parts.len() {
+        if !is_part(parts, processor, scripts[processor].as_slice()) {
             return false;
         }
     }
@@ -58,22 +58,24 @@ pub(crate) fn hold_same(scripts: &[Vec<Command>], parts: &[Part])
 }
 
 /// Whether the part at a place is that of the processor of this number with this script.
-fn is_part(parts: &[Part], k: usize, script: &[Command]) -> bool
-    requires { k < length parts.now }
-    ensures { IsTrue result
-        → ((d : _) → IsPartOfReport parts.now k script.now (slice_index_or parts.now k d)) }
+fn is_part(parts: &[Part], processor: usize, script: &[Command]) -> bool
+    requires { processor < length parts.now }
+    ensures { IsTrue result → ((d : _) → IsPartOfReport parts.now processor script.now
+        (slice_index_or parts.now processor d)) }
 {
-    let part = &parts[k];
+    let part = &parts[processor];
     let seats = part.seats.as_slice();
     let entries = part.history.entries();
-    if part.processor as usize != k || part.history.copy().processor() as usize != k {
+    if part.processor as usize != processor
+        || part.history.copy().processor() as usize != processor
+    {
         return false;
     }
     if part.commands != script.len() || seats.len() != parts.len() || !are_apart(seats) {
         return false;
     }
     has_script(entries, seats[0], script)
-        && hears_all(parts, k, seats, entries)
+        && hears_all(parts, processor, seats, entries)
         && are_heard(entries, &seats[1..])
         && had_memory(entries)
 }
@@ -119,15 +121,16 @@ fn has_script(entries: &[Entry], seat: u32, script: &[Command]) -> bool
 }
 
 /// Whether each other processor's own operations are what was taken at the seat that hears it.
-fn hears_all(parts: &[Part], k: usize, seats: &[u32], entries: &[Entry]) -> bool
+fn hears_all(parts: &[Part], processor: usize, seats: &[u32], entries: &[Entry]) -> bool
     requires { length seats.now ≡ length parts.now }
-    ensures { IsTrue result → ((q : ℕ) (d : _) → q < length parts.now → q ≢ k
-        → taken_from seats.now k q entries.now ≡ (slice_index_or parts.now q d).history.copy.own) }
+    ensures { IsTrue result → ((other : ℕ) (d : _) → other < length parts.now → other ≢ processor
+        → taken_from seats.now processor other entries.now
+        ≡ (slice_index_or parts.now other d).history.copy.own) }
 {
-    for q in 0..parts.len() {
-        if q != k {
-            let place = if q < k { q + 1 } else { q };
-            if place >= seats.len() || !has_own(entries, seats[place], &parts[q]) {
+    for other in 0..parts.len() {
+        if other != processor {
+            let place = if other < processor { other + 1 } else { other };
+            if place >= seats.len() || !has_own(entries, seats[place], &parts[other]) {
                 return false;
             }
         }
