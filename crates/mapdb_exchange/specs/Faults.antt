@@ -11,7 +11,6 @@ use Rattle.mapdb_exchange.specs.declared.faults.NodeFault.TheVariants.{Seats}
 use Rattle.mapdb_exchange.specs.declared.faults.RunFault.{RunFault}
 use Rattle.mapdb_exchange.specs.declared.faults.RunFault.TheVariants as run
 use Rattle.mapdb_exchange.specs.declared.faults.Unstarted.{Unstarted}
-use Rattle.mapdb_exchange.specs.declared.faults.Unstarted.TheVariants as start
 use Rattle.mapdb_exchange.specs.declared.faults.WorkFault.{WorkFault}
 use Rattle.mapdb_exchange.specs.declared.faults.WorkFault.TheVariants.{Gate, Link, Memory, Node}
 use Rattle.mapdb_exchange.specs.declared.faults.WorkFault.TheVariants.{NoThread}
@@ -56,8 +55,7 @@ IsSetupFault fault = (fault ≡ Memory) ⊎ (fault ≡ Node Seats)
 -- the fault of a run in which not every worker was started
 abbrev pub missing : Option Unstarted → Option WorkFault
 missing None = None
-missing (Some start.Memory) = Some Memory
-missing (Some start.NoThread) = Some NoThread
+missing (Some unstarted) = Some NoThread
 
 -- the fault, where there is one
 abbrev pub listed : Option WorkFault → List WorkFault

@@ -40,14 +40,9 @@ pub enum RunFault {
     Link,
 }
 
-/// Why a worker was not started.
+/// The system gave no thread for a worker.
 #[derive(Clone, Copy, Debug, PartialEq, Eq)]
-pub(crate) enum Unstarted {
-    /// There was no memory to hold one that was started.
-    Memory,
-    /// The system gave no thread.
-    NoThread,
-}
+pub(crate) struct Unstarted;
 
 /// Why a worker ended early: what a run tells, but for a bad count.
 #[derive(Clone, Copy, Debug, PartialEq, Eq)]

@@ -12,15 +12,15 @@ use std::sync::Wait;
 use std::thread;
 use std::thread::{JoinHandle, Scope, Threads};
 
-/// The workers that were started, and why no more were, if that is so.
+/// The workers that were started, and whether the next one was not.
 #[derive(Drop)]
 struct Started {
     handles: Vec<JoinHandle<Ended>>,
     unstarted: Option<Unstarted>,
 }
 
-/// What the workers that were started ended with, in the order of their posts, and why no more were
-/// started, if that is so.
+/// What the workers that were started ended with, in the order of their posts, and whether the next
+/// one was not started.
 #[derive(Drop)]
 pub(crate) struct Ends {
     ended: Vec<Ended>,
@@ -58,13 +58,10 @@ fn start_all<'s, 'e: 's, R: Wait + Sync, G: Gate + Sync>(
     let mut handles = Vec::with_capacity(alloc, posts.len())?;
     for post in posts {
         let Ok(handle) = scope.spawn(move || work(rt, alloc, gate, post)) else {
-            let unstarted = Some(Unstarted::NoThread);
+            let unstarted = Some(Unstarted);
             return Ok(Started { handles, unstarted });
         };
-        if handles.push(handle).is_err() {
-            let unstarted = Some(Unstarted::Memory);
-            return Ok(Started { handles, unstarted });
-        }
+        handles.push_reserved(handle);
     }
     let unstarted = None;
     Ok(Started { handles, unstarted })
@@ -80,7 +77,7 @@ fn join_all<R: Threads>(
 {
     let mut ended = Vec::with_capacity(alloc, handles.len())?;
     for handle in handles {
-        ended.push(handle.join(rt))?;
+        ended.push_reserved(handle.join(rt));
     }
     Ok(ended)
 }
@@ -101,7 +98,7 @@ pub(crate) fn seats_of(alloc: Global, ends: Ends) -> Result<Vec<Seat>, WorkFault
     let mut faults = Vec::new(alloc);
     put_fault(&mut faults, missing(unstarted))?;
     for Ended { seat, fault } in ended {
-        seats.push(seat)?;
+        seats.push_reserved(seat);
         put_fault(&mut faults, fault)?;
     }
     match first_fault(faults.as_slice()) {
@@ -114,11 +111,7 @@ pub(crate) fn seats_of(alloc: Global, ends: Ends) -> Result<Vec<Seat>, WorkFault
 fn missing(unstarted: Option<Unstarted>) -> Option<WorkFault>
     ensures { result ≡ missing unstarted }
 {
-    match unstarted {
-        None => None,
-        Some(Unstarted::Memory) => Some(WorkFault::Memory),
-        Some(Unstarted::NoThread) => Some(WorkFault::NoThread),
-    }
+    unstarted.map(|_| WorkFault::NoThread)
 }
 
 /// Adds a fault, where there is one.
