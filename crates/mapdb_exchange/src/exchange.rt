@@ -184,7 +184,7 @@ fn next_seats(
         let Some(seat) = seats.next() else {
             return Err(WorkFault::Node(NodeFault::Seats));
         };
-        own.push(seat)?;
+        own.push_reserved(seat);
     }
     Ok(own)
 }
@@ -198,7 +198,7 @@ fn part_of(alloc: Global, node: Node, commands: usize, seats: Vec<Seat>) -> Resu
 {
     let mut numbers = Vec::with_capacity(alloc, seats.len())?;
     for seat in &seats {
-        numbers.push(seat.number())?;
+        numbers.push_reserved(seat.number());
     }
     let history = closed(node, seats)?;
     Ok(Part {

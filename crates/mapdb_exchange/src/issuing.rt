@@ -149,7 +149,7 @@ fn finish_all<R: Wait>(
 {
     let mut ends = Vec::with_capacity(alloc, links.len())?;
     for link in links {
-        ends.push(link.finish(rt)?)?;
+        ends.push_reserved(link.finish(rt)?);
     }
     Ok(ends)
 }
