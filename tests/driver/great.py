@@ -274,6 +274,14 @@ def long_threads(processors: int) -> Script:
     return Script(name, ["threads", "--capacity", "1"], source, output, 0)
 
 
+def journal_full() -> Script:
+    """One processor whose commands, and the operations that are read back to be sent, are more than
+    a journal holds: of 990,000 commands 65,535 issue one operation each."""
+    lines = ["processors 1"] + ["end 0 %d" % number for number in range(1, 65536)]
+    lines += ["end 0 1"] * (990000 - 65535)
+    return Script("journal_full", ["threads"], "\n".join(lines).encode(), b"", 1)
+
+
 def line_limits() -> list[Script]:
     """Lines at the limits of their number and of their length."""
     comment = b"#" + b"x" * (LONGEST_LINE - 1)

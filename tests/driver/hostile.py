@@ -27,9 +27,9 @@ def run_hostile(program: Program, short: bool) -> Tally:
 
 
 def slow_scripts() -> list[Script]:
-    """Copies that are full, and the deepest chain in its orders."""
+    """Copies and a journal that are full, and the deepest chain in its orders."""
     numbers = range(1, great.CHAIN + 1)
-    return [great.full_copy(), great.many_spaces(),
+    return [great.full_copy(), great.many_spaces(), great.journal_full(),
             great.deepest_chain("deepest_chain_ascending", numbers),
             great.deepest_chain("deepest_chain_descending", reversed(numbers)),
             great.chain_one_by_one(great.CHAIN)]

@@ -12,6 +12,7 @@ LONGEST_SCRIPT = 20000
 
 
 ERRORS = {
+    "journal_full": b"run fault journal-full\n",
     "threaded_exchange_five_processors": b"run fault count\n",
     "threaded_exchange_no_processors": b"run fault count\n",
 }
