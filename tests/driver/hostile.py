@@ -17,7 +17,7 @@ def run_hostile(program: Program, short: bool) -> Tally:
     only."""
     scripts = [script for script in rows() if script.name.startswith(HOSTILE)]
     scripts += great.line_limits() + great.last_lines() + great.full_copies()
-    scripts += [great.long_threads(count) for count in (2, 4)]
+    scripts += [great.long_threads(count) for count in (2, 4)] + [great.journal_full()]
     scripts.append(great.chain_one_by_one(SHORT_CHAIN))
     scripts += [great.in_threads(script) for script in great.line_limits() if script.status == 1]
     slow = [] if short else slow_scripts()
@@ -27,9 +27,9 @@ def run_hostile(program: Program, short: bool) -> Tally:
 
 
 def slow_scripts() -> list[Script]:
-    """Copies and a journal that are full, and the deepest chain in its orders."""
+    """Copies that are full, and the deepest chain in its orders."""
     numbers = range(1, great.CHAIN + 1)
-    return [great.full_copy(), great.many_spaces(), great.journal_full(),
+    return [great.full_copy(), great.many_spaces(),
             great.deepest_chain("deepest_chain_ascending", numbers),
             great.deepest_chain("deepest_chain_descending", reversed(numbers)),
             great.chain_one_by_one(great.CHAIN)]
