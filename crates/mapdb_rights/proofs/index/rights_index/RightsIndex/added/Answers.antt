@@ -1,0 +1,7 @@
+use Rattle.mapdb_rights.proofs.index.rights_index.RightsIndex.added.Goals as goal
+
+pub returns-in-Err-clause-ok : goal.returns-in-Err-clause-ok
+returns-in-Err-clause-ok c = tt
+
+pub returns-in-Err-clause-nothing_kept : goal.returns-in-Err-clause-nothing_kept
+returns-in-Err-clause-nothing_kept c = (c.new.ensures, c.new-in-Err.ensures, c.new-in-Err-2.ensures)
