@@ -53,6 +53,9 @@ has_some-had_some-requires c = record {
       sym (ap (λ (change : Change). change.rights) seen);
 }
 
+pub write-requires-clause-was : goal.write-requires-clause-was
+write-requires-clause-was c = sym (c.requires.step.cached c.args.run.first (omega arith) c.requires.step.above)
+
 pub follow_live-requires-clause-written : goal.follow_live-requires-clause-written
 follow_live-requires-clause-written c =
     sym (c.in_ok-write.ensures.cached c.args.run.id c.args.run.first

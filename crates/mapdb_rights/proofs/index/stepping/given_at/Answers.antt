@@ -37,6 +37,9 @@ returns-then-ended c =
     (none_given S changes c.args.id c.args.page page_limit c.requires (omega arith) (λ q from before.
     from_ended (cached_in changes) S c.args.id q c.in-Some.mapping child held (sym c.ended.ensures ∙ c.if-ended.true)))
 
+pub child_given-requires-clause-lives : goal.child_given-requires-clause-lives
+child_given-requires-clause-lives c = sym c.ended.ensures ∙ c.if-ended.false
+
 pub returns : goal.returns
 returns c =
     subst (λ (id : RecordId). IsGiven (state_of_facts c.args.facts.now) c.args.changes.now.own.entries id c.args.page c.child_given.result) c.in-Some.ensures.named
