@@ -10,8 +10,10 @@ loop-mapping-preserved c =
     record {
       above = omega arith;
       limit = omega arith;
-      passed = passed_next (state_of_facts c.args.facts.now) c.args.space c.args.page _ _ c.in-Some.mapping c.loop-mapping.end until.result _
-          c.in-Some.ensures.steps (omega arith) (omega arith) until.ensures.steady invariant.passed;
+      passed = passed_next (state_of_facts c.args.facts.now) c.args.space c.args.page
+          _ _ c.in-Some.mapping c.loop-mapping.end until.result _
+          c.in-Some.ensures.steps (omega arith) (omega arith)
+          until.ensures.steady invariant.passed;
     }
 
 pub returns-clause-shown : goal.returns-clause-shown

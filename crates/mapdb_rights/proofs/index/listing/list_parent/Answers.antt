@@ -13,9 +13,11 @@ use Rattle.mapdb_rights.proofs.index.listing.list_parent.Goals as goal
 pub returns-in-Some-clause-there : goal.returns-in-Some-clause-there
 returns-in-Some-clause-there c =
     on_ok c.list_place.result
-    (λ there p at revoked. subst (λ (s : Record). is_listed c.list_place.new.listed (place_of s) ≡ true)
+    (λ there p at revoked.
+    subst (λ (s : Record). is_listed c.list_place.new.listed (place_of s) ≡ true)
     (some_same c.in-Some.mapping p (sym c.in-Some.is ∙ c.record.ensures.held ∙ at))
-    (subst (λ (e : Listed). is_listed c.list_place.new.listed e ≡ true) c.place_of.ensures.is there))
+    (subst (λ (e : Listed). is_listed c.list_place.new.listed e ≡ true)
+    c.place_of.ensures.is there))
     c.list_place.ensures.there
 
 pub returns-in-Some-clause-held : goal.returns-in-Some-clause-held

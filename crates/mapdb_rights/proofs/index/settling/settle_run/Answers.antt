@@ -54,7 +54,8 @@ has_some-had_some-requires c = record {
 }
 
 pub write-requires-clause-was : goal.write-requires-clause-was
-write-requires-clause-was c = sym (c.requires.step.cached c.args.run.first (omega arith) c.requires.step.above)
+write-requires-clause-was c =
+    sym (c.requires.step.cached c.args.run.first (omega arith) c.requires.step.above)
 
 pub follow_live-requires-clause-written : goal.follow_live-requires-clause-written
 follow_live-requires-clause-written c =
