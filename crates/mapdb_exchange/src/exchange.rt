@@ -12,6 +12,7 @@ use crate::limits::{MOST_CAPACITY, MOST_SCRIPTS};
 use crate::networks::{Inbox, inboxes_of, outboxes_of};
 use crate::pool::{run_all, seats_of};
 use crate::reports::{Part, Report, agrees, hold_same};
+use crate::senders::BatchSender;
 use crate::workers::{Job, Post, Receiving};
 use mapdb_node::{Gate, History, Node, Seat};
 use mapdb_replica::Command;
@@ -108,16 +109,30 @@ fn posts_of<'a, R: Wait>(
         .zip(scripts)
         .zip(inboxes.into_iter().zip(outboxes))
     {
-        let seat = seat_at(rt, node)?;
-        let job = Job::Issue(Issuing {
-            script: script.as_slice(),
-            seat,
-            links,
-        });
-        posts.push(Post { node, job })?;
-        add_receiving(rt, &mut posts, node, inbox)?;
+        add_posts(rt, &mut posts, node, script.as_slice(), inbox, links)?;
     }
     Ok(posts)
+}
+
+/// Adds the posts of a processor: the issuing worker's, and then the receiving workers'.
+fn add_posts<'a, R: Wait>(
+    rt: &R,
+    posts: &mut Vec<Post<'a>>,
+    node: &'a Node,
+    script: &'a [Command],
+    inbox: Inbox,
+    links: Vec<BatchSender>,
+) -> Result<(), WorkFault>
+    ensures fault { IfErr result IsSetupFault }
+{
+    let seat = seat_at(rt, node)?;
+    let job = Job::Issue(Issuing {
+        script,
+        seat,
+        links,
+    });
+    posts.push(Post { node, job })?;
+    add_receiving(rt, posts, node, inbox)
 }
 
 /// Adds the posts of a processor's receiving workers.
@@ -165,10 +180,25 @@ fn parts_of(
     let mut seats = seats.into_iter();
     let mut parts = Vec::new(alloc);
     for (node, script) in nodes.into_iter().zip(scripts) {
-        let own = next_seats(alloc, &mut seats, count)?;
-        parts.push(part_of(alloc, node, script.len(), own)?)?;
+        add_part(alloc, &mut parts, node, script.len(), &mut seats, count)?;
     }
     Ok(parts)
+}
+
+/// Adds the part of a processor, whose node is closed with its seats, the next so many.
+fn add_part(
+    alloc: Global,
+    parts: &mut Vec<Part>,
+    node: Node,
+    commands: usize,
+    seats: &mut IntoIter<Seat, Global>,
+    count: usize,
+) -> Result<(), WorkFault>
+    ensures fault { IfErr result IsSetupFault }
+{
+    let own = next_seats(alloc, seats, count)?;
+    parts.push(part_of(alloc, node, commands, own)?)?;
+    Ok(())
 }
 
 /// The next so many seats.
@@ -196,10 +226,7 @@ fn part_of(alloc: Global, node: Node, commands: usize, seats: Vec<Seat>) -> Resu
     ensures seats { IfOk result (λ part. part.seats.items ≡ map (λ s. s.number) seats.items) }
     ensures fault { IfErr result IsSetupFault }
 {
-    let mut numbers = Vec::with_capacity(alloc, seats.len())?;
-    for seat in &seats {
-        numbers.push_reserved(seat.number());
-    }
+    let numbers = numbers_of(alloc, seats.as_slice())?;
     let history = closed(node, seats)?;
     Ok(Part {
         processor: history.copy().processor(),
@@ -207,6 +234,17 @@ fn part_of(alloc: Global, node: Node, commands: usize, seats: Vec<Seat>) -> Resu
         seats: numbers,
         history,
     })
+}
+
+/// The numbers of these seats.
+fn numbers_of(alloc: Global, seats: &[Seat]) -> Result<Vec<u32>, AllocError>
+    ensures { IfOk result (λ numbers. numbers.items ≡ map (λ s. s.number) seats.now) }
+{
+    let mut numbers = Vec::with_capacity(alloc, seats.len())?;
+    for seat in seats {
+        numbers.push_reserved(seat.number());
+    }
+    Ok(numbers)
 }
 
 /// The history of a node that is closed with its seats.
