@@ -1,6 +1,6 @@
 use Rattle.std.proofs.Common.{rules}
 use Rattle.mapdb_lines.specs.Grammar.{versioning_at}
-use Rattle.mapdb_lines.proofs.grammar.version_line.Goals as goal
+use Rattle.mapdb_lines.proofs.forms.version_line.Goals as goal
 
 pub returns-in_err-asked : goal.returns-in_err-asked
 unfolding versioning_at
