@@ -4,6 +4,7 @@ use Rattle.std.specs.Prelude.{Some, None}
 use Rattle.mapdb_fpage.specs.Bounds.{page_limit}
 use Rattle.mapdb_facts.specs.Adding.{same_rights}
 use Rattle.mapdb_replica.specs.Pairs.{Pair}
+use Rattle.mapdb_replica.specs.declared.running.SteadyPages.{SteadyPages}
 
 -- the frame that lies so far on, with the same rights
 abbrev pub pair_on : ℕ → Option Pair → Option Pair
@@ -18,6 +19,14 @@ continues None count (Some later) = false
 continues (Some first) count None = false
 continues (Some first) count (Some later) = (later.0 == first.0 + count)
     && same_rights later.1 first.1
+
+-- pages, from one on, over which what they are served from goes on
+pub record AreSteady (served_at : ℕ → Option Pair) (pages : SteadyPages) : Type 0 where
+  pub here : pages.served ≡ served_at pages.page
+  pub above : pages.page < pages.end
+  pub limit : pages.end ≤ page_limit
+  pub same : (count : ℕ) → pages.page + count < pages.end
+      → served_at (pages.page + count) ≡ pair_on count (served_at pages.page)
 
 -- the end of the pages, from one on, over which that goes on: as many as there are one behind the
 -- other

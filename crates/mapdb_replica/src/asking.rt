@@ -3,14 +3,14 @@
 ghost use Rattle.std.specs.Prelude.{◌≡◌, ◌≤◌, ◌<◌, ℕ};
 ghost use Rattle.mapdb_facts.specs.Facts.{state_of_facts};
 ghost use Rattle.mapdb_rights.specs.Index.{KeepsUp};
-ghost use Rattle.mapdb_rights.specs.Live.{IsLiveFrom, ShowUntil};
+ghost use Rattle.mapdb_rights.specs.Live.{IsLiveFrom};
 ghost use Rattle.mapdb_rights.specs.Right.{rights_at};
 ghost use Rattle.mapdb_replica.specs.Pairs.{holder_pair};
 
 use crate::page_rights::pair_at;
 use mapdb_facts::{Facts, RecordId, Space};
 use mapdb_fpage::{PAGE_LIMIT, Rights};
-use mapdb_rights::{RightsIndex, live_after, rights_of, show_until, steady_until};
+use mapdb_rights::{RightsIndex, live_after, rights_of, steady_until};
 
 /// The rights of a record at a page: none where it is not held.
 pub(crate) fn held_rights(facts: &Facts, index: &RightsIndex, id: RecordId, page: u64) -> Rights
@@ -69,20 +69,5 @@ pub(crate) fn next_live(
     match index.live_at(facts, space, page, after) {
         Some(found) => found,
         None => live_after(facts, space, page, after),
-    }
-}
-
-/// The end of pages, from one on, over which each record of the space, in the first space the root
-/// too, has equal rights, and where it has some, a frame that rises by one with each page.
-pub(crate) fn shown_until(facts: &Facts, index: &RightsIndex, space: Space, page: u64) -> u64
-    requires page { page < PAGE_LIMIT }
-    requires kept { KeepsUp index.now (state_of_facts facts.now) }
-    ensures above { page < result }
-    ensures limit { result ≤ PAGE_LIMIT }
-    ensures shown { ShowUntil (state_of_facts facts.now) space page result }
-{
-    match index.show_until(facts, space, page) {
-        Some(end) => end,
-        None => show_until(facts, space, page),
     }
 }

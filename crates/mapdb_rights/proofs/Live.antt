@@ -9,3 +9,4 @@ pub mod PagePairs
 pub mod PassedPlaces
 pub mod ServedPages
 pub mod ShownNames
+pub mod ShownPlaces

@@ -19,10 +19,11 @@ mod runs;
 mod served_pages;
 mod settling;
 mod sharing;
-mod shown_runs;
+mod shown_pages;
 mod stale;
 mod stepping;
 mod unlisting;
 
 pub use rights_index::RightsIndex;
 pub use runs::RightsRun;
+pub use served_pages::Shown;

@@ -1,5 +1,5 @@
 -- The first record with a right at a page, as far as places were passed.
-use Rattle.std.proofs.Common.{◌≡◌, ℕ, ◌+◌, ◌<◌, [], arith}
+use Rattle.std.proofs.Common.{◌≡◌, ℕ, ◌+◌, ◌<◌, ◌≤◌, [], arith}
 use Rattle.std.specs.Prelude.{None}
 use Rattle.std.proofs.lemmas.Bool.{false≢true}
 use Rattle.mapdb_fpage.specs.Bounds.{page_limit}
@@ -22,6 +22,7 @@ use Rattle.mapdb_rights.specs.declared.index.first_records.First.{First}
 use Rattle.mapdb_rights.proofs.Live.FirstRecords.{found_where, here_where, kept_where}
 use Rattle.mapdb_rights.proofs.Live.LiveOrders.{shown_live}
 use Rattle.mapdb_rights.proofs.Live.PassedPlaces.{HoldsPassed, none_ahead, passed_all, passed_on}
+use Rattle.mapdb_rights.proofs.Steady.ShownRuns.{meets_more}
 
 module _ (S : State) (changes : PageChanges) (space : Space) (page : ℕ) where
   module _ (own : OwnPlaces) (end : ℕ) where
@@ -53,6 +54,14 @@ module _ (S : State) (changes : PageChanges) (space : Space) (page : ℕ) where
                 own end sweep next swept (λ id. kept_where S changes space page (is_shown S space page name) name id (seen_in changes name page) found)
                 (here_where S changes space page (is_shown S space page name) name found) h.behind;
           }
+
+      -- of fewer pages
+      pub first_fewer : (least : ℕ) → least ≤ end → (sweep : Sweep) (found : First) → FirstPassed own end sweep found → FirstPassed own least sweep found
+      first_fewer least fewer sweep found h = record {
+        found_there = h.found_there;
+        top = h.top;
+        behind = λ p has meeting. h.behind p has (meets_more p page least end fewer meeting);
+      }
 
       -- behind the last
       pub first_all : (sweep : Sweep) (found : First) → owner_places set (owners.Space space) ≡ own_list own → (page < page_limit → page < end)

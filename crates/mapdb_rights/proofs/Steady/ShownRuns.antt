@@ -36,7 +36,7 @@ use Rattle.mapdb_rights.proofs.Settling.Ended.{rights_in_place}
 use Rattle.mapdb_rights.proofs.Live.EmptyRights.{both_empty}
 
 -- what meets fewer pages meets more
-meets_more : (p : OwnPlace) (page least end : ℕ) → least ≤ end → own_meets p page least ≡ true → own_meets p page end ≡ true
+pub meets_more : (p : OwnPlace) (page least end : ℕ) → least ≤ end → own_meets p page least ≡ true → own_meets p page end ≡ true
 meets_more p page least end fewer h =
     let less : max p.first page < min (p.first + own_pages p) least = ltb-true (max p.first page) (min (p.first + own_pages p) least) h in
     lt-ltb (max p.first page) (min (p.first + own_pages p) end) (omega arith)

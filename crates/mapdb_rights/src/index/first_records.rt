@@ -51,7 +51,7 @@ fn both(other: RecordId, seen: Change, id: RecordId, change: Change) -> First
 
 impl First {
     /// With one record more.
-    fn with(self, id: RecordId, change: Change) -> First
+    pub(crate) fn with(self, id: RecordId, change: Change) -> First
         ensures { result ≡ first_with id change self }
     {
         match self {
@@ -66,7 +66,13 @@ impl First {
 }
 
 /// The root, where it is of the space and has a right at the page.
-fn root_first(changes: &AllChanges, live: &Places, facts: &Facts, space: Space, page: u64) -> First
+pub(crate) fn root_first(
+    changes: &AllChanges,
+    live: &Places,
+    facts: &Facts,
+    space: Space,
+    page: u64,
+) -> First
     requires { Shows changes.now live.now (state_of_facts facts.now) }
     ensures found { IsFirstFound (state_of_facts facts.now) changes.now.own.entries space page
         result }

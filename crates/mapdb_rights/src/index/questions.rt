@@ -2,7 +2,6 @@
 
 use super::live_names::{all_live, live_after};
 use super::rights_index::RightsIndex;
-use super::shown_runs::show_until;
 use mapdb_facts::{Facts, RecordId, Space};
 use mapdb_lists::unchanged_until;
 use std::alloc::AllocError;
@@ -13,7 +12,7 @@ impl RightsIndex {
     ghost use Rattle.mapdb_facts.specs.Facts.{records_of_facts, state_of_facts};
     ghost use Rattle.mapdb_fpage.specs.Bounds.{page_limit};
     ghost use Rattle.mapdb_rights.specs.Index.{KeepsUp, StandsFor};
-    ghost use Rattle.mapdb_rights.specs.Live.{IsLiveFrom, ShowUntil, live_names};
+    ghost use Rattle.mapdb_rights.specs.Live.{IsLiveFrom, live_names};
     ghost use Rattle.mapdb_rights.specs.Right.{rights_at};
     ghost use Rattle.mapdb_facts.specs.State.{State};
 
@@ -58,24 +57,6 @@ impl RightsIndex {
         }
         let names = all_live(self.alloc, &self.changes, &self.live, facts, space, page)?;
         Ok(Some(names))
-    }
-
-    /// The end of pages, from one on, over which each record of the space, in the first space the
-    /// root too, has equal rights, and where it has some, a frame that rises by one with each page.
-    /// None where the index is absent. It takes no memory.
-    pub fn show_until(&self, facts: &Facts, space: Space, page: u64) -> Option<u64>
-        requires page { page < page_limit }
-        requires stands { KeepsUp self.now (state_of_facts facts.now) }
-        ensures absent { self.now.absent ≡ true → result ≡ None }
-        ensures there { self.now.absent ≡ false → IsSome result }
-        ensures above { IfSome result (λ end. page < end) }
-        ensures limit { IfSome result (λ end. end ≤ page_limit) }
-        ensures shown { IfSome result (ShowUntil (state_of_facts facts.now) space page) }
-    {
-        if self.absent {
-            return None;
-        }
-        Some(show_until(&self.changes, &self.live, facts, space, page))
     }
 
     /// The end of pages, from one on, over which a record has equal rights; a name that is not held

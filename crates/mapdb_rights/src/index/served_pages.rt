@@ -1,16 +1,56 @@
-//! The frame that a page of a space is served from.
+//! The frame that a page of a space is served from, and how far what the space shows goes on.
 
 use super::first_records::{First, first_live};
 use super::frame_rights::frame_rights;
 use super::rights_index::RightsIndex;
+use super::shown_pages::first_until;
 use mapdb_facts::{Facts, Space};
 use mapdb_fpage::Rights;
 
+/// What a page of a space is served from, and how far that goes on steadily.
+#[derive(Clone, Copy, Debug, PartialEq, Eq)]
+pub struct Shown {
+    /// The frame that the page is served from, with all rights that the space's records have of it
+    /// there; None where no record of the space has a right there.
+    pub served: Option<(u64, Rights)>,
+    /// The end of pages, from this one on, over which each record of the space has equal rights,
+    /// and where it has some, a frame that rises by one with each page.
+    pub end: u64,
+}
+
 impl RightsIndex {
-    ghost use Rattle.std.specs.Prelude.{◌≡◌, None, IfSome, IsSome, true, false};
+    ghost use Rattle.std.specs.Prelude.{◌≡◌, ◌<◌, ◌≤◌, None, IfSome, IsSome, true, false};
     ghost use Rattle.mapdb_facts.specs.Facts.{state_of_facts};
+    ghost use Rattle.mapdb_fpage.specs.Bounds.{page_limit};
+    ghost use Rattle.mapdb_rights.specs.First.{IsFirstOfAll};
     ghost use Rattle.mapdb_rights.specs.Index.{KeepsUp};
+    ghost use Rattle.mapdb_rights.specs.Live.{ShowUntil};
     ghost use Rattle.mapdb_rights.specs.Served.{IsServed};
+
+    /// The frame that the page of the space is served from, whose first record was found.
+    fn served_by(
+        &self,
+        facts: &Facts,
+        space: Space,
+        page: u64,
+        first: First,
+    ) -> Option<(u64, Rights)>
+        requires kept { KeepsUp self.now (state_of_facts facts.now) }
+        requires there { self.now.absent ≡ false }
+        requires first { IsFirstOfAll (state_of_facts facts.now) self.now.changes.own.entries
+            space page first }
+        ensures { IsServed (state_of_facts facts.now) space page result }
+    {
+        match first {
+            First::Nothing => None,
+            First::Alike(_, change) => Some((change.frame(page), change.rights)),
+            First::Mixed(_, change) => {
+                let (changes, live) = (&self.changes, &self.live);
+                let rights = frame_rights(changes, live, facts, space, page, change.shift);
+                Some((change.frame(page), rights))
+            }
+        }
+    }
 
     /// The frame that the page of the space is served from: that of the least record of the space,
     /// in the first space of the root, with any right there, with all rights that the space's
@@ -25,15 +65,33 @@ impl RightsIndex {
         if self.absent {
             return None;
         }
-        let (changes, live) = (&self.changes, &self.live);
-        let found = match first_live(changes, live, facts, space, page) {
-            First::Nothing => None,
-            First::Alike(_, change) => Some((change.frame(page), change.rights)),
-            First::Mixed(_, change) => {
-                let rights = frame_rights(changes, live, facts, space, page, change.shift);
-                Some((change.frame(page), rights))
-            }
-        };
-        Some(found)
+        let first = first_live(&self.changes, &self.live, facts, space, page);
+        Some(self.served_by(facts, space, page, first))
+    }
+
+    /// What the page of the space is served from, as [`RightsIndex::served_at`] tells it, and how
+    /// far all records of the space go on from there: each has equal rights at the pages before the
+    /// end, and where it has some, a frame that rises by one with each page. None where the index
+    /// is absent. It takes no memory.
+    pub fn shown_at(&self, facts: &Facts, space: Space, page: u64) -> Option<Shown>
+        requires page { page < page_limit }
+        requires stands { KeepsUp self.now (state_of_facts facts.now) }
+        ensures absent { self.now.absent ≡ true → result ≡ None }
+        ensures there { self.now.absent ≡ false → IsSome result }
+        ensures served { IfSome result (λ shown.
+            IsServed (state_of_facts facts.now) space page shown.served) }
+        ensures above { IfSome result (λ shown. page < shown.end) }
+        ensures limit { IfSome result (λ shown. shown.end ≤ page_limit) }
+        ensures shown { IfSome result (λ shown.
+            ShowUntil (state_of_facts facts.now) space page shown.end) }
+    {
+        if self.absent {
+            return None;
+        }
+        let found = first_until(&self.changes, &self.live, facts, space, page);
+        Some(Shown {
+            served: self.served_by(facts, space, page, found.first),
+            end: found.end,
+        })
     }
 }
