@@ -3,7 +3,6 @@ use Rattle.std.proofs.Common.{◌≡◌, ◌≢◌, ℕ, ◌<◌, ◌⊎◌, inl
 use Rattle.std.proofs.lemmas.Bool.{lt-ltb, ltb-false}
 use Rattle.std.proofs.lemmas.Bool.Decides.{nat_tests}
 use Rattle.std.proofs.lemmas.Option.{slice_get_cases, slice_get_past, slice_get_within}
-use Rattle.std.specs.Result.{is_ok}
 use Rattle.std.specs.Prelude.{Option, Some, None, Result, Ok, Err, nat_lt, ◌==◌, slice_get}
 use Rattle.mapdb_facts.specs.declared.operations.Op.{Op}
 use Rattle.mapdb_replica.specs.Merging.{Merges}
@@ -20,7 +19,7 @@ use Rattle.mapdb_cluster.specs.declared.events.Event.TheVariants as event
 use Rattle.mapdb_cluster.specs.declared.events.Refusal.TheVariants as move_refusal
 use Rattle.mapdb_cluster.proofs.Steps.StepTells.{with_same}
 use Rattle.mapdb_script.specs.Accepting.{heard}
-use Rattle.mapdb_script.specs.Answering.{Answered, ScriptCluster, LineDone, Refused, accepting, happened, line_done, loaded}
+use Rattle.mapdb_script.specs.Answering.{Answered, ScriptCluster, LineDone, Refused, happened, line_done, loaded}
 use Rattle.mapdb_script.specs.Reply.{taken_text}
 use Rattle.mapdb_script.specs.States.{Does, IsTakeTold, IsToldAs}
 use Rattle.mapdb_script.specs.declared.answering.Reply.{Reply as Answer}
@@ -38,46 +37,46 @@ some_copy copies at copy there =
 module _ (c : ScriptCluster) (move : Move) where
   -- a refusal is told as it is, or that memory ran out
   told_as : (why fault : TakeFault) (result : Result Answer TurnFault) → (fault ≡ why) ⊎ (fault ≡ take.Memory 0) → IsToldAs (move_refusal.Take fault) result
-      → Does result c (Ok (line_done c move (refused c.net (move_refusal.Take why))))
+      → Does result c.net (Ok (line_done c move (refused c.net (move_refusal.Take why))))
   told_as why fault result (inl e) told = refused_told c move (move_refusal.Take why) result (rw e at told)
   told_as why fault result (inr e) told = let wanted = rw e at told in rw wanted tt
 
   take_refusal_told : (why fault : TakeFault) (result : Result Answer TurnFault) → IsRefusedAs why fault → IsToldAs (move_refusal.Take fault) result
-      → Does result c (Ok (line_done c move (take_refused c.net Enough why)))
+      → Does result c.net (Ok (line_done c move (take_refused c.net Enough why)))
   take_refusal_told (take.Bad place what) fault result same told = told_as (take.Bad place what) fault result (inl same) told
   take_refusal_told why fault result same told = told_as why fault result same told
 
   -- what a copy was given, by a move by which it hears from others
   taken_told : (at : ℕ) (copy new : Log) (batch : List Op) (outcome : Result (List Op) TakeFault) (taken : Result ℕ TakeFault) (result : Result Answer TurnFault)
-      → slice_get c.net.copies at ≡ Some copy → accepting c.accepted move ≡ heard c.accepted at true → TakeCases batch outcome taken copy new → IsTakeTold taken result
-      → Does result (record { net = with_copy c.net at new; accepted = heard c.accepted at (is_ok taken) }) (Ok (line_done c move (take_done c.net at copy batch Enough outcome)))
-  taken_told at copy new batch (Ok ops) (Ok count) result there hears takes told = rw (told, takes.0, takes.1, hears) refl
-  taken_told at copy new batch (Ok ops) (Err (take.Memory n)) result there hears takes told = rw told tt
-  taken_told at copy new batch (Ok ops) (Err fault) result there hears takes told = absurd takes
-  taken_told at copy new batch (Err why) (Ok count) result there hears takes told = absurd takes
-  taken_told at copy new batch (Err why) (Err fault) result there hears takes told =
-      subst (λ (n : Net). Does result (record { net = n; accepted = c.accepted }) (Ok (line_done c move (take_refused c.net Enough why)))) (sym (with_same c.net at copy new there takes.1))
+      → slice_get c.net.copies at ≡ Some copy → TakeCases batch outcome taken copy new → IsTakeTold taken result
+      → Does result (with_copy c.net at new) (Ok (line_done c move (take_done c.net at copy batch Enough outcome)))
+  taken_told at copy new batch (Ok ops) (Ok count) result there takes told = rw (told, takes.0, takes.1) refl
+  taken_told at copy new batch (Ok ops) (Err (take.Memory n)) result there takes told = rw told tt
+  taken_told at copy new batch (Ok ops) (Err fault) result there takes told = absurd takes
+  taken_told at copy new batch (Err why) (Ok count) result there takes told = absurd takes
+  taken_told at copy new batch (Err why) (Err fault) result there takes told =
+      subst (λ (n : Net). Does result n (Ok (line_done c move (take_refused c.net Enough why)))) (sym (with_same c.net at copy new there takes.1))
       (take_refusal_told why fault result takes.0 told)
 
 -- a message that came to a copy
 pub delivery_told : (c : ScriptCluster) (at message : ℕ) (copy new : Log) (batch : List Op) (taken : Result ℕ TakeFault) (result : Result Answer TurnFault)
     → at < length c.net.copies → copy ≡ get_or c.net.copies at copy → slice_get c.net.messages message ≡ Some batch
     → Takes batch (take_outcome copy.ops batch) taken copy new → IsTakeTold taken result
-    → Does result (record { net = with_copy c.net at new; accepted = heard c.accepted at (is_ok taken) }) (happened c (event.Deliver message at))
+    → Does result (with_copy c.net at new) (happened c (event.Deliver message at))
 delivery_told c at message copy new batch taken result within is sent takes told =
     let there = at_there c.net.copies at copy within is in
     let done : happened c (event.Deliver message at) ≡ Ok (line_done c (Happens (event.Deliver message at) Enough) (taken_at c.net Enough at batch copy)) = rw (there.0, there.1, sent) refl in
-    rw done (taken_told c (Happens (event.Deliver message at) Enough) at copy new batch (take_outcome copy.ops batch) taken result there.1 refl (take_cases batch (take_outcome copy.ops batch) taken copy new takes) told)
+    rw done (taken_told c (Happens (event.Deliver message at) Enough) at copy new batch (take_outcome copy.ops batch) taken result there.1 (take_cases batch (take_outcome copy.ops batch) taken copy new takes) told)
 
 -- a snapshot whose operations a copy was given
 pub load_told : (c : ScriptCluster) (at : ℕ) (copy new : Log) (said : Result (List Op) SnapshotFault) (batch : List Op) (taken : Result ℕ TakeFault)
     (result : Result Answer TurnFault) → at < length c.net.copies → copy ≡ get_or c.net.copies at copy → said ≡ Ok batch
     → Takes batch (take_outcome copy.ops batch) taken copy new → IsTakeTold taken result
-    → Does result (record { net = with_copy c.net at new; accepted = heard c.accepted at (is_ok taken) }) (loaded c at said)
+    → Does result (with_copy c.net at new) (loaded c at said)
 load_told c at copy new said batch taken result within is e takes told =
     let there = at_there c.net.copies at copy within is in
     let done : loaded c at said ≡ Ok (line_done c (Loads at batch Enough) (taken_at c.net Enough at batch copy)) = rw (e, there.0, there.1) refl in
-    rw done (taken_told c (Loads at batch Enough) at copy new batch (take_outcome copy.ops batch) taken result there.1 refl (take_cases batch (take_outcome copy.ops batch) taken copy new takes) told)
+    rw done (taken_told c (Loads at batch Enough) at copy new batch (take_outcome copy.ops batch) taken result there.1 (take_cases batch (take_outcome copy.ops batch) taken copy new takes) told)
 
 -- a snapshot for a processor that is not there
 pub load_nowhere : (c : ScriptCluster) (at : ℕ) (said : Result (List Op) SnapshotFault) → (nat_lt 0 (length c.net.copies) ≡ true) × (slice_get c.net.copies at ≡ None)
@@ -116,7 +115,7 @@ no_processors c into from found some is none =
     (missing_by c.net into from found (nat_lt into (length c.net.copies)) (nat_lt from (length c.net.copies)) refl refl is none))
 
 merge_same_by : (c : ScriptCluster) (at : ℕ) (copy : Log) (result : Result Answer TurnFault) → slice_get c.net.copies at ≡ Some copy → IsTakeTold (Ok 0) result
-    → Does result (record { net = c.net; accepted = heard c.accepted at true }) (happened c (event.Join at at))
+    → Does result c.net (happened c (event.Join at at))
 merge_same_by c at copy result there told =
     let after : ScriptCluster = record { net = c.net; accepted = heard c.accepted at true } in
     let done : happened c (event.Join at at) ≡ Ok (record { reply = Answered (taken_text 0); cluster = after }) = rw (some_copy c.net.copies at copy there, there, eq-eqb at at refl) refl in
@@ -124,7 +123,7 @@ merge_same_by c at copy result there told =
 
 -- a copy that takes all of itself
 pub merge_same : (c : ScriptCluster) (into from : ℕ) (result : Result Answer TurnFault) → into < length c.net.copies → into ≡ from → IsTakeTold (Ok 0) result
-    → Does result (record { net = c.net; accepted = heard c.accepted into true }) (happened c (event.Join into from))
+    → Does result c.net (happened c (event.Join into from))
 merge_same c into from result within e told = elim (slice_get_cases c.net.copies into).1 [
   | inl found ↦ rw (← e) (merge_same_by c into found.0 result found.2 told)
   | inr past ↦ absurd (omega (arith, past.0))
@@ -133,7 +132,7 @@ merge_same c into from result within e told = elim (slice_get_cases c.net.copies
 -- a copy that was given all that another one holds
 pub merge_told : (c : ScriptCluster) (into from : ℕ) (copies : List Log) (taken : Result ℕ TakeFault) (result : Result Answer TurnFault)
     → into ≢ from → Merges c.net.copies into from taken copies → IsTakeTold taken result
-    → Does result (record { net = record { copies = copies; messages = c.net.messages }; accepted = heard c.accepted into (is_ok taken) }) (happened c (event.Join into from))
+    → Does result (record { copies = copies; messages = c.net.messages }) (happened c (event.Join into from))
 merge_told c into from copies taken result apart merges told =
     let one = merges.one in
     let other = merges.other in
@@ -141,4 +140,4 @@ merge_told c into from copies taken result apart merges told =
     let differ : (into == from) ≡ false = grind (arith, nat_tests) in
     let done : happened c (event.Join into from) ≡ Ok (line_done c (Happens (event.Join into from) Enough) (taken_at c.net Enough into other.ops one)) =
     rw (some, merges.there, merges.other_there, differ) refl in
-    rw (done, merges.kept) (taken_told c (Happens (event.Join into from) Enough) into one merges.after other.ops (take_outcome one.ops other.ops) taken result merges.there refl (take_cases other.ops (take_outcome one.ops other.ops) taken one merges.after merges.takes) told)
+    rw (done, merges.kept) (taken_told c (Happens (event.Join into from) Enough) into one merges.after other.ops (take_outcome one.ops other.ops) taken result merges.there (take_cases other.ops (take_outcome one.ops other.ops) taken one merges.after merges.takes) told)

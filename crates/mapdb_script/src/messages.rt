@@ -11,20 +11,21 @@ impl ScriptCluster {
     ghost use Rattle.std.specs.Prelude.{◌≡◌, ◌<◌, ◌&&◌, IfOk, IfSome, OnOk, OnErr, Err, Some};
     ghost use Rattle.std.specs.Prelude.{None, length, nat_lt, if◌then◌else◌};
     ghost use Rattle.mapdb_cluster.specs.declared.events.Event.TheVariants as event;
+    ghost use Rattle.mapdb_script.specs.Accepting.{Accepted};
     ghost use Rattle.mapdb_script.specs.Answering.{compared, covers_answer, happened, same_answer};
-    ghost use Rattle.mapdb_script.specs.States.{Does, cluster_of};
+    ghost use Rattle.mapdb_script.specs.States.{Does, beside, net_of};
 
     /// The places of two processors' copies, if the cluster has both.
     fn places(&self, at: u8, other: u8) -> Result<Option<(usize, usize)>, LineFault>
         ensures there { IfOk result (λ found. IfSome found (λ i. (i.0 ≡ at)
-            × (i.0 < length (cluster_of self.now).net.copies)
-            × (i.1 ≡ other) × (i.1 < length (cluster_of self.now).net.copies))) }
+            × (i.0 < length (net_of self.now).copies)
+            × (i.1 ≡ other) × (i.1 < length (net_of self.now).copies))) }
         ensures found { IfOk result (λ found. found
-            ≡ (if nat_lt at (length (cluster_of self.now).net.copies)
-            && nat_lt other (length (cluster_of self.now).net.copies) then Some (at, other)
+            ≡ (if nat_lt at (length (net_of self.now).copies)
+            && nat_lt other (length (net_of self.now).copies) then Some (at, other)
             else None)) }
-        ensures some { OnOk result (0 < length (cluster_of self.now).net.copies) }
-        ensures none { OnErr result ((length (cluster_of self.now).net.copies ≡ 0)
+        ensures some { OnOk result (0 < length (net_of self.now).copies) }
+        ensures none { OnErr result ((length (net_of self.now).copies ≡ 0)
             × (result ≡ Err LineFault.NoProcessors)) }
     {
         let Some(at) = self.place(at)? else {
@@ -39,8 +40,8 @@ impl ScriptCluster {
     /// Sends a message with the operations of a processor's copy, from the mark `first` on and up
     /// to before the mark `end`.
     pub(crate) fn send(&mut self, at: u8, first: u32, end: u32) -> Result<Reply, TurnFault>
-        ensures { Does result (cluster_of self.new)
-            (happened (cluster_of self.old) (event.Send at first end)) }
+        ensures { (accepted : Accepted) → Does result (net_of self.new)
+            (happened (beside self.old accepted) (event.Send at first end)) }
     {
         let Some(at) = self.place(at)? else {
             return Ok(Reply::Refused(Refusal::NoProcessor));
@@ -54,8 +55,8 @@ impl ScriptCluster {
 
     /// Brings a message to a processor, whose copy takes its operations.
     pub(crate) fn deliver(&mut self, message: u32, at: u8) -> Result<Reply, TurnFault>
-        ensures { Does result (cluster_of self.new)
-            (happened (cluster_of self.old) (event.Deliver message at)) }
+        ensures { (accepted : Accepted) → Does result (net_of self.new)
+            (happened (beside self.old accepted) (event.Deliver message at)) }
     {
         let Some(at) = self.place(at)? else {
             return Ok(Reply::Refused(Refusal::NoProcessor));
@@ -64,31 +65,28 @@ impl ScriptCluster {
             return Ok(Reply::Refused(Refusal::NoMessage));
         };
         let taken = self.copies[at].take(message.ops());
-        self.sequence.hear(at, taken.is_ok());
         Reply::taken(taken)
     }
 
     /// Has a processor's copy take all that another one's holds, in its order of arrival.
     pub(crate) fn merge(&mut self, into: u8, from: u8) -> Result<Reply, TurnFault>
-        ensures { Does result (cluster_of self.new)
-            (happened (cluster_of self.old) (event.Join into from)) }
+        ensures { (accepted : Accepted) → Does result (net_of self.new)
+            (happened (beside self.old accepted) (event.Join into from)) }
     {
         let Some((into, from)) = self.places(into, from)? else {
             return Ok(Reply::Refused(Refusal::NoProcessor));
         };
         if into == from {
-            self.sequence.hear(into, true);
             return Reply::taken(Ok(0));
         }
         let taken = merge_among(self.copies.as_mut_slice(), into, from);
-        self.sequence.hear(into, taken.is_ok());
         Reply::taken(taken)
     }
 
     /// Asks whether the copies of two processors hold the same.
     pub(crate) fn same(&self, at: u8, other: u8) -> Result<Reply, TurnFault>
-        ensures { Does result (cluster_of self.now)
-            (compared (cluster_of self.now) at other same_answer) }
+        ensures { (accepted : Accepted) → Does result (net_of self.now)
+            (compared (beside self.now accepted) at other same_answer) }
     {
         let Some((at, other)) = self.places(at, other)? else {
             return Ok(Reply::Refused(Refusal::NoProcessor));
@@ -98,8 +96,8 @@ impl ScriptCluster {
 
     /// Asks whether a processor's copy holds all that another one's holds.
     pub(crate) fn covers(&self, at: u8, other: u8) -> Result<Reply, TurnFault>
-        ensures { Does result (cluster_of self.now)
-            (compared (cluster_of self.now) at other covers_answer) }
+        ensures { (accepted : Accepted) → Does result (net_of self.now)
+            (compared (beside self.now accepted) at other covers_answer) }
     {
         let Some((at, other)) = self.places(at, other)? else {
             return Ok(Reply::Refused(Refusal::NoProcessor));

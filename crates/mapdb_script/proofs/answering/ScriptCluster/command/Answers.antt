@@ -1,23 +1,23 @@
-use Rattle.std.proofs.Common.{refl}
-use Rattle.mapdb_script.specs.States.{cluster_of}
+use Rattle.std.proofs.Common.{ap, refl}
+use Rattle.mapdb_script.specs.States.{beside, seen_of}
 use Rattle.mapdb_script.proofs.AnsweringLemmas.{at_nowhere, command_accepted, command_nowhere, command_refused}
 use Rattle.mapdb_script.proofs.answering.ScriptCluster.command.Goals as goal
 
 pub returns-in_default : goal.returns-in_default
-returns-in_default c =
-    let cluster = cluster_of c.args.self.now in
-    command_nowhere cluster c.args.at c.args.command.now
-    (at_nowhere cluster.net.copies c.args.at _ c.in_ok-at.field-0 c.in_ok-at.ensures.none c.in_ok-at.ensures.some refl c.in_default.is)
+returns-in_default c accepted =
+    let cluster = beside c.args.self.now accepted in
+    ap seen_of (command_nowhere cluster c.args.at c.args.command.now
+    (at_nowhere cluster.net.copies c.args.at _ c.in_ok-at.field-0 c.in_ok-at.ensures.none c.in_ok-at.ensures.some refl c.in_default.is))
 
 pub returns-in-Err : goal.returns-in-Err
-returns-in-Err c =
+returns-in-Err c accepted =
     let there = rw c.in-Some.is at c.in_ok-at.ensures.there in
-    rw (← there.0) (command_refused (cluster_of c.args.self.now) c.in-Some.at c.index_mut.result.now c.apply.new.self
+    rw (← there.0) (command_refused (beside c.args.self.now accepted) c.in-Some.at c.index_mut.result.now c.apply.new.self
     c.args.command.now c.in-Err.fault _ there.1 c.index_mut.ensures.value c.in-Err.ensures.applies c.refused.ensures)
 
-pub returns-in_ok-accept-in-Ok : goal.returns-in_ok-accept-in-Ok
-returns-in_ok-accept-in-Ok c =
+pub returns-in-Ok : goal.returns-in-Ok
+returns-in-Ok c accepted =
     let there = rw c.in-Some.is at c.in_ok-at.ensures.there in
-    rw (← there.0, c.in_ok-accept-in-Ok.ensures)
-    (command_accepted (cluster_of c.args.self.now) c.in-Some.at c.index_mut.result.now c.apply.new.self
-    c.args.command.now c.in-Ok.applied there.1 c.index_mut.ensures.value c.in-Ok.ensures.applies)
+    rw (← there.0)
+    (ap seen_of (command_accepted (beside c.args.self.now accepted) c.in-Some.at c.index_mut.result.now c.apply.new.self
+    c.args.command.now c.in-Ok.applied there.1 c.index_mut.ensures.value c.in-Ok.ensures.applies))
