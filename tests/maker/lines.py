@@ -86,9 +86,7 @@ def served_line(world: World) -> str:
 
 
 def tree_line(world: World) -> str:
-    """Asks the tree, or, in a world that does not ask it, for rights."""
-    if not world.asks_tree:
-        return rights_line(world)
+    """Asks the tree."""
     region = world.known()
     return "tree %s %x" % (region.space, world.address(region))
 

@@ -49,11 +49,10 @@ def either_width(random: Random, kinds: list) -> list[str]:
 
 
 def of_many_lines(random: Random) -> bytes:
-    """Some hundred lines. The tree is asked where places are small."""
+    """Some hundred lines."""
     kinds = random.choice([lines.COMMANDS, lines.EXCHANGE, lines.LOADS])
     wide = random.random() < 0.3
     world = World(random, wide, alone=kinds is not lines.EXCHANGE)
-    world.asks_tree = not wide
     return joined(random, lines.lines_over(world, kinds, MOST_LINES))
 
 

@@ -37,21 +37,19 @@ class World:
         self.base = 0x10000 if not wide else random.choice(
             [0, 0, 1 << 32, (1 << WHOLE) - (1 << 34), 1 << 20]
         )
-        self.asks_tree, self.orders = self.choose_orders()
+        self.orders = self.choose_orders()
         self.mapped: list[Region] = []
         self.commands = 0
         self.messages = 0
 
-    def choose_orders(self) -> tuple[bool, list[int]]:
-        """The orders of places, and whether the tree is asked. The program's tree has a node for
-        each page, so where it is asked places are small, or greater than it takes; but for a few
-        worlds, since a script with a million nodes takes a second."""
+    def choose_orders(self) -> list[int]:
+        """The orders of places. In half of the wide worlds they are small, or greater than a tree
+        takes."""
         if not self.wide:
-            return True, [12, 12, 12, 13, 13, 14, 15, 16]
-        shot = self.random.random()
-        if shot < 0.5:
-            return True, self.random.sample(TREE_ORDERS, 5) + [12, 33, WHOLE]
-        return shot > 0.99, self.random.sample(range(PAGE, WHOLE + 1), 5) + [12, 32, 33, WHOLE]
+            return [12, 12, 12, 13, 13, 14, 15, 16]
+        if self.seldom(0.5):
+            return self.random.sample(TREE_ORDERS, 5) + [12, 33, WHOLE]
+        return self.random.sample(range(PAGE, WHOLE + 1), 5) + [12, 32, 33, WHOLE]
 
     def seldom(self, chance: float) -> bool:
         return self.random.random() < chance
