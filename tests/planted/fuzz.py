@@ -88,6 +88,11 @@ LINES = [
          3140),
     Line("tree", "an unmap without flush is one with it", "in below if flush else below[1:]:",
          "in below:", 1369),
+    Line("tree", "a map goes into a page that has a node",
+         "run.space == receiver and run.pages.meet(new.pages)", "False", 9),
+    Line("tree", "a map has no widest place", "if transfer.source.order > WIDEST_ORDER:",
+         "if False:", 16),
+    Line("tree", "an unmap has no widest place", "if place.order > WIDEST_ORDER:", "if False:", 7),
     Line("threads", "a refusal ends a processor's commands", "            continue",
          "            break", 2619),
 ]
