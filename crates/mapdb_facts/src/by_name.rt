@@ -44,6 +44,7 @@ impl<V: Drop> ByName<V> {
     }
 
     /// The value of a name, where it has one.
+    #[inline(always)]
     pub fn get(&self, id: RecordId) -> Option<&V>
         ensures { option_copied result ≡ lookup (same_id id) self.now.entries }
     {

@@ -117,6 +117,7 @@ impl CutsByRecord {
     }
 
     /// What is taken from the record of a name, where something was.
+    #[inline(always)]
     pub(crate) fn get(&self, id: RecordId) -> Option<&Runs>
         ensures { option_copied result ≡ lookup (is_at (id_cmp id)) self.now }
     {

@@ -46,6 +46,7 @@ impl NameList {
     }
 
     /// The place of a name, where it is one of these.
+    #[inline(always)]
     pub fn place(&self, id: RecordId) -> Option<usize>
         ensures { result ≡ place_of id self.now }
     {
@@ -53,6 +54,7 @@ impl NameList {
     }
 
     /// Adds a name at the end. An error where memory ran out, and then nothing has changed.
+    #[inline(always)]
     pub fn add(&mut self, id: RecordId) -> Result<(), AllocError>
         requires { place_of id self.old ≡ None }
         ensures ok { OnOk result (self.new ≡ self.old ++ id ∷ []) }

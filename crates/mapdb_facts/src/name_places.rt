@@ -35,6 +35,7 @@ fn near_word(near: &[Vec<u32>], id: RecordId) -> u32
 /// The word for a name at a place, where the name is near: its number lies not far beyond twice the
 /// names that came before it. So the list of each processor has at most [`NEAR_NUMBERS`] words more
 /// than twice the names.
+#[inline(always)]
 fn word_for(id: RecordId, at: usize) -> Option<u32>
     ensures word { IfSome result (λ word. word ≡ at + 1) }
     ensures number { IfSome result (λ _. id.number + 1 < 2 ^ 64) }
@@ -48,6 +49,7 @@ fn word_for(id: RecordId, at: usize) -> Option<u32>
 }
 
 /// Has lists up to that of a processor. An error where memory ran out.
+#[inline(always)]
 fn reach(near: &mut Vec<Vec<u32>>, alloc: Global, processor: u8) -> Result<(), AllocError>
     ensures reached { OnOk result (processor < vec_len near.new) }
     ensures same { (q : RecordId) → near_word near.new.items q ≡ near_word near.old.items q }
@@ -60,6 +62,7 @@ fn reach(near: &mut Vec<Vec<u32>>, alloc: Global, processor: u8) -> Result<(), A
 
 /// Makes the list of a processor reach up to a number, with no place in what is new. An error where
 /// memory ran out.
+#[inline(always)]
 fn lengthen(words: &mut Vec<u32>, number: usize) -> Result<(), AllocError>
     requires { number + 1 < 2 ^ 64 }
     ensures reached { OnOk result (number < vec_len words.new) }
@@ -72,6 +75,7 @@ fn lengthen(words: &mut Vec<u32>, number: usize) -> Result<(), AllocError>
 }
 
 /// Writes a word of the list of a processor. An error where memory ran out.
+#[inline(always)]
 fn put_word(words: &mut Vec<u32>, number: usize, word: u32) -> Result<(), AllocError>
     requires { number + 1 < 2 ^ 64 }
     ensures ok { OnOk result ((n : ℕ) → slice_index words.new.items n
@@ -85,6 +89,7 @@ fn put_word(words: &mut Vec<u32>, number: usize, word: u32) -> Result<(), AllocE
 }
 
 /// Writes the word of a near name. An error where memory ran out.
+#[inline(always)]
 fn put_near(
     near: &mut Vec<Vec<u32>>,
     alloc: Global,
@@ -114,6 +119,7 @@ impl NamePlaces {
     }
 
     /// The place of a name, where it has one.
+    #[inline(always)]
     pub(crate) fn get(&self, id: RecordId) -> Option<usize>
         ensures { result ≡ place_in self.now id }
     {
@@ -128,6 +134,7 @@ impl NamePlaces {
     }
 
     /// Gives a place to a name that has none. An error where memory ran out.
+    #[inline(always)]
     pub(crate) fn put(&mut self, id: RecordId, at: usize) -> Result<(), AllocError>
         requires { place_in self.old id ≡ None }
         ensures ok { OnOk result ((q : RecordId) → place_in self.new q

@@ -112,6 +112,7 @@ impl RecordsByName {
     }
 
     /// The record of a name, where one is held.
+    #[inline(always)]
     pub(crate) fn get(&self, id: RecordId) -> Option<Record>
         ensures { result ≡ record_in self.now id }
     {

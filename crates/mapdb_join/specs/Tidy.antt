@@ -18,6 +18,11 @@ tidy before (start ∷ rest) = if start.bits == before then tidy before rest
 abbrev pub middle : List Start → ℕ → ℕ → List Start
 middle xs low high = take (count_below xs high - count_below xs low) (drop (count_below xs low) xs)
 
+-- the starts of one run, from a page up to before another
+abbrev pub one_run : ℕ → ℕ → ℕ → List Start
+one_run first end bits =
+    record { page = first; bits = bits } ∷ record { page = end; bits = 0 } ∷ []
+
 module _ (xs : List Start) (first end bits : ℕ) where
   -- the bits at the first page, and at the one behind the last
   abbrev pub at_first : ℕ

@@ -50,7 +50,13 @@ pub(crate) fn map_line<'a>(words: &[u8]) -> Result<Line<'a>, LineFault>
         page,
         rights,
     };
-    Ok(Line::Map(at, sender, item, receiver, window))
+    Ok(Line::Map {
+        at,
+        sender,
+        item,
+        receiver,
+        window,
+    })
 }
 
 /// `words P S FIRST SECOND R WINDOW`.
@@ -66,7 +72,13 @@ pub(crate) fn words_map_line<'a>(words: &[u8]) -> Result<Line<'a>, LineFault>
     let offered = item(first, second)?;
     let receiver = space(receiver)?;
     let taken = window(taken)?;
-    Ok(Line::Map(at, sender, offered, receiver, taken))
+    Ok(Line::Map {
+        at,
+        sender,
+        item: offered,
+        receiver,
+        window: taken,
+    })
 }
 
 /// `unmap P S SEND MODE`.
@@ -81,7 +93,13 @@ pub(crate) fn unmapping_line<'a>(words: &[u8]) -> Result<Line<'a>, LineFault>
     let invoker = space(invoker)?;
     let (page, rights) = send(part)?;
     let flush = mode(how)?;
-    Ok(Line::Unmap(at, invoker, page, rights, flush))
+    Ok(Line::Unmap {
+        at,
+        space: invoker,
+        page,
+        rights,
+        flush,
+    })
 }
 
 /// `end P S`.
@@ -94,7 +112,7 @@ pub(crate) fn ending_line<'a>(words: &[u8]) -> Result<Line<'a>, LineFault>
     };
     let at = processor(at)?;
     let ended = space(ended)?;
-    Ok(Line::End(at, ended))
+    Ok(Line::End { at, space: ended })
 }
 
 /// `P S ADDR`, the page that a query asks for.
@@ -121,7 +139,10 @@ pub(crate) fn tree_query_line<'a>(words: &[u8]) -> Result<Line<'a>, LineFault>
     };
     let asked = space(asked)?;
     let byte = address(byte)?;
-    Ok(Line::Tree(asked, byte))
+    Ok(Line::Tree {
+        space: asked,
+        address: byte,
+    })
 }
 
 /// `send P I J`.
@@ -135,7 +156,7 @@ pub(crate) fn sending_line<'a>(words: &[u8]) -> Result<Line<'a>, LineFault>
     let at = processor(at)?;
     let first = mark(first)?;
     let end = mark(end)?;
-    Ok(Line::Send(at, first, end))
+    Ok(Line::Send { at, first, end })
 }
 
 /// `deliver M P`.
@@ -148,7 +169,7 @@ pub(crate) fn delivery_line<'a>(words: &[u8]) -> Result<Line<'a>, LineFault>
     };
     let message = mark(message)?;
     let at = processor(at)?;
-    Ok(Line::Deliver(message, at))
+    Ok(Line::Deliver { message, at })
 }
 
 /// `P Q`, two processors.
@@ -189,7 +210,10 @@ pub(crate) fn loading_line<'a>(words: &'a [u8]) -> Result<Line<'a>, LineFault>
         return Err(LineFault::Words);
     }
     let at = processor(at)?;
-    Ok(Line::Load(at, Text::new(text)))
+    Ok(Line::Load {
+        at,
+        text: Text::new(text),
+    })
 }
 
 /// `table P`.
@@ -214,5 +238,5 @@ pub(crate) fn version_line<'a>(words: &[u8]) -> Result<Line<'a>, LineFault>
     };
     let at = processor(at)?;
     let asked = space_number(asked)?;
-    Ok(Line::Version(at, asked))
+    Ok(Line::Version { at, number: asked })
 }

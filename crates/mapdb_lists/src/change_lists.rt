@@ -15,6 +15,7 @@ use std::alloc::{AllocError, Global};
 use std::collections::BTreeMap;
 
 /// How many of the changes stand at a page or in front of it.
+#[inline(always)]
 fn spot_of(list: &[PageChange], page: u64) -> usize
     requires { PagesRise list.now }
     ensures { IsSpot list.now page result }
@@ -64,6 +65,7 @@ pub(crate) fn list_next(list: &[PageChange], page: u64) -> u64
 
 /// What stands at a page, and how far, where this stands before any change: both are found by one
 /// search.
+#[inline(always)]
 pub(crate) fn list_stretch(list: &[PageChange], first: Change, page: u64) -> Stretch
     requires rise { PagesRise list.now }
     requires limit { page < PAGE_LIMIT }

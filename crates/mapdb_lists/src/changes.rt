@@ -117,6 +117,7 @@ fn next_change(changes: &AllChanges, id: RecordId, page: u64) -> u64
 
 /// What a record has before any change: the root has all rights, and each page of it is its own
 /// frame.
+#[inline(always)]
 fn first_change(id: RecordId) -> Change
     ensures { result ≡ at_first id }
 {
@@ -153,6 +154,7 @@ pub fn cached_at(changes: &AllChanges, id: RecordId, page: u64) -> Rights
 
 /// What is cached of a record at a page, and how far one change stands. The record's changes are
 /// looked up once.
+#[inline(always)]
 pub fn stretch_at(changes: &AllChanges, id: RecordId, page: u64) -> Stretch
     requires { page < PAGE_LIMIT }
     ensures { IsStretch (change_at changes.now.own.entries id) (at_first id) page result }
@@ -205,6 +207,7 @@ fn write_among(
 }
 
 /// Gives rights and frames to pages of a record over which one change stands.
+#[inline(always)]
 pub fn write(
     changes: &mut AllChanges,
     id: RecordId,

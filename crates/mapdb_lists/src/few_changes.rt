@@ -76,6 +76,7 @@ impl FewChanges {
     }
 
     /// What stands at a page, and how far, where this stands before any change.
+    #[inline(always)]
     pub(crate) fn stretch(&self, first: Change, page: u64) -> Stretch
         requires { page < PAGE_LIMIT }
         ensures { IsStretch (listed_change self.now) first page result }
@@ -85,6 +86,7 @@ impl FewChanges {
 
     /// Gives a change to pages over which another stood, where this stands before any change. An
     /// error where memory ran out.
+    #[inline(always)]
     pub(crate) fn write(
         &mut self,
         before: Change,

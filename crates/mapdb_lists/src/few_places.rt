@@ -108,6 +108,7 @@ pub(crate) fn least_meeting(
 
 /// The next of a few places, in a sweep over those that meet the pages from `first` on up to before
 /// `end`.
+#[inline(always)]
 pub(crate) fn next_of_few(
     places: &[OwnPlace],
     first: u64,

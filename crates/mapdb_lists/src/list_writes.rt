@@ -28,6 +28,7 @@ fn set_at(list: &mut [PageChange], index: usize, next: PageChange)
 /// Puts a change in front of those from an index on. A full list gets room for as many changes more
 /// as records mostly get, and not twice its own, as it would by itself. An error where memory ran
 /// out, and then the same changes stand there.
+#[inline(always)]
 fn insert_at(
     list: &mut SmallVec<PageChange, 2>,
     index: usize,
@@ -114,6 +115,7 @@ fn write_between(
 
 /// Puts a change, if it is not what stands in front of its page, in place of one that stands there,
 /// and answers how many stand at the page or in front of it. An error where memory ran out.
+#[inline(always)]
 fn write_first(
     list: &mut SmallVec<PageChange, 2>,
     before: Change,
@@ -152,6 +154,7 @@ fn change_there(list: &[PageChange], index: usize, page: u64) -> Option<Change>
 /// At the end of pages that get this change, what follows stays as it was. A change there that says
 /// no more than this one is not kept. So many stand at the first of the pages or in front of it,
 /// and none behind it before the end. An error where memory ran out.
+#[inline(always)]
 fn write_end(
     list: &mut SmallVec<PageChange, 2>,
     spot: usize,
@@ -195,6 +198,7 @@ fn write_end(
 
 /// Gives a change to pages over which another stood, where this stands before any change. An error
 /// where memory ran out.
+#[inline(always)]
 pub(crate) fn list_write(
     list: &mut SmallVec<PageChange, 2>,
     before: Change,

@@ -53,6 +53,7 @@ impl OwnChanges {
     }
 
     /// What stands at a page, and how far, where this stands before any change.
+    #[inline(always)]
     pub(crate) fn stretch(&self, first: Change, page: u64) -> Stretch
         requires { page < PAGE_LIMIT }
         ensures { IsStretch (own_change self.now) first page result }
@@ -81,6 +82,7 @@ impl OwnChanges {
 
     /// Goes over to a map where there are too many changes for a list. An error where memory ran
     /// out.
+    #[inline(always)]
     fn widen(&mut self, alloc: Global) -> Result<(), AllocError>
         ensures { OnOk result ((page : ℕ) → own_change self.new page ≡ own_change self.old page) }
     {
@@ -92,6 +94,7 @@ impl OwnChanges {
 
     /// Gives a change to pages over which another stood, where the changes are kept now, and this
     /// stands before any change. An error where memory ran out.
+    #[inline(always)]
     fn write_there(
         &mut self,
         before: Change,
@@ -113,6 +116,7 @@ impl OwnChanges {
 
     /// Gives a change to pages over which another stood, where this stands before any change. An
     /// error where memory ran out.
+    #[inline(always)]
     pub(crate) fn write(
         &mut self,
         alloc: Global,

@@ -44,6 +44,7 @@ pub(crate) fn pages_of_order(order: u8) -> u64
 
 impl OwnPlace {
     /// Whether a page of the place lies among the pages from `first` on up to before `end`.
+    #[inline(always)]
     pub(crate) fn meets(&self, first: u64, end: u64) -> bool
         requires { IsAlignedPlace self.now }
         ensures { result ≡ own_meets self.now first end }
@@ -98,6 +99,7 @@ impl Sweep {
     }
 
     /// Past so many of a few places.
+    #[inline(always)]
     pub(crate) fn past(self, passed: usize) -> Sweep
         ensures { result ≡ record self { passed = passed } }
     {
@@ -216,6 +218,7 @@ impl OwnPlaces {
     }
 
     /// The next place of a sweep over those that meet the pages from `first` on up to before `end`.
+    #[inline(always)]
     pub fn next_place(&self, first: u64, end: u64, sweep: Sweep) -> Option<NextPlace>
         requires { AreAligned (own_list self.now) }
         ensures { IsSweptOn (own_list self.now) (ahead self.now) first end sweep result }
@@ -228,6 +231,7 @@ impl OwnPlaces {
 
     /// The same places as many, where they are too many for a list. An error where memory ran
     /// out.
+    #[inline(always)]
     fn outgrown(&self, alloc: Global) -> Result<Option<ManyPlaces>, AllocError>
         ensures { IfOk result (λ grown. IfSome grown (λ many. (k : OwnPlace)
             → stands many.places k ≡ stands (own_list self.now) k)) }
@@ -243,6 +247,7 @@ impl OwnPlaces {
 
     /// Goes over to many where there are too many places for a list. An error where memory ran
     /// out.
+    #[inline(always)]
     fn widen(&mut self, alloc: Global) -> Result<(), AllocError>
         ensures { OnOk result ((k : OwnPlace) → stands (own_list self.new) k
             ≡ stands (own_list self.old) k) }
@@ -254,6 +259,7 @@ impl OwnPlaces {
     }
 
     /// Puts one place more where the places are kept now. An error where memory ran out.
+    #[inline(always)]
     fn put(&mut self, alloc: Global, place: OwnPlace) -> Result<(), AllocError>
         ensures { OnOk result ((k : OwnPlace) → stands (own_list self.new) k
             ≡ (is_at (place_cmp place) k || stands (own_list self.old) k)) }
@@ -268,6 +274,7 @@ impl OwnPlaces {
     }
 
     /// Puts one place more. An error where memory ran out.
+    #[inline(always)]
     pub(crate) fn insert(&mut self, alloc: Global, place: OwnPlace) -> Result<(), AllocError>
         ensures { OnOk result ((k : OwnPlace) → stands (own_list self.new) k
             ≡ (is_at (place_cmp place) k || stands (own_list self.old) k)) }

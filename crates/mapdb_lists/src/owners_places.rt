@@ -101,6 +101,7 @@ impl OwnersPlaces {
     }
 
     /// The places of an owner, where it has some.
+    #[inline(always)]
     pub(crate) fn get(&self, owner: Owner) -> Option<&OwnPlaces>
         ensures { option_copied result ≡ lookup (same_owner owner) self.now.entries }
     {
@@ -111,6 +112,7 @@ impl OwnersPlaces {
     }
 
     /// Puts a place among those of an owner. An error where memory ran out.
+    #[inline(always)]
     pub(crate) fn put(&mut self, owner: Owner, place: OwnPlace) -> Result<(), AllocError>
         ensures { OnOk result (IsPut Owner same_owner self.old.entries self.new.entries owner
             place) }

@@ -92,6 +92,7 @@ impl Places {
     }
 
     /// Lists one entry more. An error where memory ran out.
+    #[inline(always)]
     pub fn insert(&mut self, entry: Listed) -> Result<(), AllocError>
         ensures { OnOk result ((e : Listed) → is_listed self.new e
             ≡ (is_at (listed_cmp entry) e || is_listed self.old e)) }

@@ -9,7 +9,7 @@ use Rattle.mapdb_fpage.specs.declared.right_sets.Rights.{Rights}
 use Rattle.mapdb_replica.specs.Pairs.{Pair}
 use Rattle.mapdb_replica.specs.Running.{AreSteady, pair_on}
 use Rattle.mapdb_replica.specs.declared.running.SteadyPages.{SteadyPages}
-use Rattle.mapdb_script.specs.Standing.{behind, shares}
+use Rattle.mapdb_script.specs.Standing.{sent_page, shares}
 
 -- what goes on shares what the first shares
 shares_on : (count : ℕ) (o : Option Pair) (rights : Rights) → shares (pair_on count o) rights ≡ shares o rights
@@ -33,16 +33,16 @@ low_or_high number page = elim (cases_Bool (nat_lt number page)) [
 -- nothing comes to more pages
 pub none_on : (f : ℕ → Option Pair) (carried : Transfer) (first page from next : ℕ) (here : SteadyPages)
     → carried.target.first_page ≤ first → first ≤ page
-    → ((number : ℕ) → first ≤ number → number < page → shares (f (behind carried number)) carried.rights ≡ false)
-    → from ≡ behind carried page → here.page ≡ from → AreSteady f here → shares here.served carried.rights ≡ false
+    → ((number : ℕ) → first ≤ number → number < page → shares (f (sent_page carried number)) carried.rights ≡ false)
+    → from ≡ sent_page carried page → here.page ≡ from → AreSteady f here → shares here.served carried.rights ≡ false
     → next ≡ page + (here.end - from)
-    → (number : ℕ) → first ≤ number → number < next → shares (f (behind carried number)) carried.rights ≡ false
+    → (number : ℕ) → first ≤ number → number < next → shares (f (sent_page carried number)) carried.rights ≡ false
 none_on f carried first page from next here low above none is at steady miss to number from_first below =
     elim (low_or_high number page) [
       | inl before ↦ none number from_first before
       | inr later ↦
           let further : here.page < here.end = steady.above in
-          let there : behind carried number ≡ from + (number - page) = omega (arith, is, low, above, later) in
+          let there : sent_page carried number ≡ from + (number - page) = omega (arith, is, low, above, later) in
           let same : f (from + (number - page)) ≡ pair_on ((from + (number - page)) - from) here.served =
           steady_on f here from (from + (number - page)) steady at (omega arith) (omega (arith, to, later, below, at, further)) in
           ap (λ n. shares (f n) carried.rights) there ∙ ap (λ (o : Option Pair). shares o carried.rights) same
@@ -53,7 +53,7 @@ none_on f carried first page from next here low above none is at steady miss to 
 abbrev pub AreFree : (Space → ℕ → Option Pair) → Space → Transfer → Space → ℕ → Type 0
 AreFree served_at sender carried receiver end =
     (number : ℕ) → carried.target.first_page ≤ number → number < end
-    → shares (served_at sender (behind carried number)) carried.rights ≡ true → served_at receiver number ≡ None
+    → shares (served_at sender (sent_page carried number)) carried.rights ≡ true → served_at receiver number ≡ None
 
 none_there : (count : ℕ) (o : Option Pair) → is_some o ≡ false → pair_on count o ≡ None
 none_there count None e = refl
@@ -78,7 +78,7 @@ free_by_none served_at sender carried receiver page next there free at steady no
 -- to more pages nothing comes
 pub free_by_nothing : (served_at : Space → ℕ → Option Pair) (sender : Space) (carried : Transfer) (receiver : Space) (page next : ℕ)
     → AreFree served_at sender carried receiver page
-    → ((number : ℕ) → page ≤ number → number < next → shares (served_at sender (behind carried number)) carried.rights ≡ false)
+    → ((number : ℕ) → page ≤ number → number < next → shares (served_at sender (sent_page carried number)) carried.rights ≡ false)
     → AreFree served_at sender carried receiver next
 free_by_nothing served_at sender carried receiver page next free none number low high some =
     elim (low_or_high number page) [

@@ -39,7 +39,7 @@ use Rattle.mapdb_script.specs.Answering.{LineDone, Refused, Reply, ScriptCluster
 use Rattle.mapdb_script.specs.NarrowTrees.{names_narrow, narrow_tree}
 use Rattle.mapdb_script.specs.declared.replies.Refusal.{Refusal}
 use Rattle.mapdb_script.specs.declared.replies.Refusal.TheVariants as refusal
-use Rattle.mapdb_script.specs.Standing.{GoesOn, IsSoAtFirst, MapGoesOn, NamesPlaces, ShowsTree, StandsFor}
+use Rattle.mapdb_script.specs.Standing.{CopiesStandFor, IsSoAtFirst, MapGoesOn, NamesPlaces, ShowsAfter, ShowsTree}
 use Rattle.mapdb_script.proofs.StandingTrees.{CommandGoesOn, stands_command}
 
 -- where no command was accepted yet
@@ -54,7 +54,7 @@ first_of : (count : ℕ) → IfSome (slice_get (map empty (range_with_len 0 coun
 first_of zero = tt
 first_of (suc count) = shows_first
 
-pub stands_new : (count : ℕ) → StandsFor true (new_net count).copies none_accepted
+pub stands_new : (count : ℕ) → CopiesStandFor true (new_net count).copies none_accepted
 stands_new count = (refl, first_of count)
 
 same_if : (a b : Bool) (P : Type 0) → (IsTrue a ↔ IsTrue b × P) → P → a ≡ b
@@ -76,24 +76,24 @@ next_other accepted at command other = cond-false (accepted.is_alone && (at == 0
 heard_other : (accepted : Accepted) (at : ℕ) → at ≢ 0 → heard accepted at true ≡ accepted
 heard_other accepted at other = rw (not_first at other) refl
 
-module _ (shows after : Bool) (cluster : ScriptCluster) (stands : StandsFor shows cluster.net.copies cluster.accepted) where
+module _ (shows after : Bool) (cluster : ScriptCluster) (stands : CopiesStandFor shows cluster.net.copies cluster.accepted) where
   -- after a line that is replied this
   abbrev StandsAfter : Reply → List Log → Accepted → Type 0
-  StandsAfter reply copies accepted = StandsFor (cond (is_refusal reply) shows after) copies accepted
+  StandsAfter reply copies accepted = CopiesStandFor (cond (is_refusal reply) shows after) copies accepted
 
   -- after a move
   abbrev MoveStands : Move → Done → Type 0
   MoveStands move done = StandsAfter (told move done.took done.reply) done.net.copies (accepted_after cluster.accepted move done.reply)
 
   -- the copies change, but not that of processor 0
-  stands_apart : (at : ℕ) (new : Log) → at ≢ 0 → after ≡ shows → StandsFor after (slice_set cluster.net.copies at new) cluster.accepted
+  stands_apart : (at : ℕ) (new : Log) → at ≢ 0 → after ≡ shows → CopiesStandFor after (slice_set cluster.net.copies at new) cluster.accepted
   stands_apart at new other same = rw same (by shows stands)
     where
-      by : (b : Bool) → StandsFor b cluster.net.copies cluster.accepted → StandsFor b (slice_set cluster.net.copies at new) cluster.accepted
+      by : (b : Bool) → CopiesStandFor b cluster.net.copies cluster.accepted → CopiesStandFor b (slice_set cluster.net.copies at new) cluster.accepted
       by true is = (is.0, rw (set_apart cluster.net.copies at 0 new other) is.1)
       by false is = is
 
-  same_stands : after ≡ shows → StandsFor after cluster.net.copies cluster.accepted
+  same_stands : after ≡ shows → CopiesStandFor after cluster.net.copies cluster.accepted
   same_stands same = rw same stands
 
   -- Commands.
@@ -104,7 +104,7 @@ module _ (shows after : Bool) (cluster : ScriptCluster) (stands : StandsFor show
 
   done_stands : (at : ℕ) (command : Command) (copy : Log) (ops : List Op) → slice_get cluster.net.copies at ≡ Some copy → IsCommand command
       → command_outcome copy command ≡ Ok ops → CommandOn at command
-      → StandsFor after (slice_set cluster.net.copies at (with_issued copy ops)) (with_next cluster.accepted at command)
+      → CopiesStandFor after (slice_set cluster.net.copies at (with_issued copy ops)) (with_next cluster.accepted at command)
   done_stands zero command copy ops there is issues on =
       stands_command shows after cluster.net.copies cluster.accepted command copy ops stands there is issues (on.first refl copy there)
   done_stands (suc at) command copy ops there is issues on =
@@ -136,20 +136,20 @@ module _ (shows after : Bool) (cluster : ScriptCluster) (stands : StandsFor show
 
   -- What is taken from others.
 
-  heard_stands : (at : ℕ) (new : Log) → (IsTrue after ↔ IsTrue shows × (at ≡ 0 → ⊥)) → StandsFor after (slice_set cluster.net.copies at new) (heard cluster.accepted at true)
+  heard_stands : (at : ℕ) (new : Log) → (IsTrue after ↔ IsTrue shows × (at ≡ 0 → ⊥)) → CopiesStandFor after (slice_set cluster.net.copies at new) (heard cluster.accepted at true)
   heard_stands zero new on = by after (λ is. (on.0 is).1 refl)
     where
-      by : (b : Bool) → (IsTrue b → ⊥) → StandsFor b (slice_set cluster.net.copies 0 new) (heard cluster.accepted 0 true)
+      by : (b : Bool) → (IsTrue b → ⊥) → CopiesStandFor b (slice_set cluster.net.copies 0 new) (heard cluster.accepted 0 true)
       by true never = absurd (never refl)
       by false never = inl refl
   heard_stands (suc at) new on =
       let other : suc at ≢ 0 = λ e. cc in
       rw (heard_other cluster.accepted (suc at) other) (stands_apart (suc at) new other (same_if after shows (suc at ≡ 0 → ⊥) on other))
 
-  heard_same : (at : ℕ) → (IsTrue after ↔ IsTrue shows × (at ≡ 0 → ⊥)) → StandsFor after cluster.net.copies (heard cluster.accepted at true)
+  heard_same : (at : ℕ) → (IsTrue after ↔ IsTrue shows × (at ≡ 0 → ⊥)) → CopiesStandFor after cluster.net.copies (heard cluster.accepted at true)
   heard_same zero on = by after (λ is. (on.0 is).1 refl)
     where
-      by : (b : Bool) → (IsTrue b → ⊥) → StandsFor b cluster.net.copies (heard cluster.accepted 0 true)
+      by : (b : Bool) → (IsTrue b → ⊥) → CopiesStandFor b cluster.net.copies (heard cluster.accepted 0 true)
       by true never = absurd (never refl)
       by false never = inl refl
   heard_same (suc at) on =
@@ -228,7 +228,7 @@ module _ (shows after : Bool) (cluster : ScriptCluster) (stands : StandsFor show
   asked_stands : (reply : Reply) (done : LineDone) → once_made cluster (record { reply = reply; cluster = cluster }) ≡ Ok done → after ≡ shows → LineStands done
   asked_stands reply done e same = made_stands (record { reply = reply; cluster = cluster }) done e (by (is_refusal reply))
     where
-      by : (b : Bool) → StandsFor (cond b shows after) cluster.net.copies cluster.accepted
+      by : (b : Bool) → CopiesStandFor (cond b shows after) cluster.net.copies cluster.accepted
       by true = stands
       by false = same_stands same
 
@@ -289,7 +289,7 @@ module _ (shows after : Bool) (cluster : ScriptCluster) (stands : StandsFor show
   counted_stands false count done is e = begun_stands cluster.net.copies count done is e
 
   -- what stands for the commands after a line
-  pub line_stands : (said : Line) (done : LineDone) → NamesPlaces said → GoesOn shows cluster.net.copies said after → done_by cluster said ≡ Ok done → LineStands done
+  pub line_stands : (said : Line) (done : LineDone) → NamesPlaces said → ShowsAfter shows cluster.net.copies said after → done_by cluster said ≡ Ok done → LineStands done
   unfolding done_by
   line_stands (line.Processors count) done places on e = counted_stands ((count == 0) || nat_lt most_processors count) count done on e
   line_stands (line.Map at sender item receiver window) done places on e =

@@ -30,7 +30,7 @@ use Rattle.mapdb_sequential.proofs.Lists.Stepping.{least_none, not_occupied}
 use Rattle.mapdb_script.specs.Accepting.{Accepted, with_next}
 use Rattle.mapdb_script.specs.NarrowTrees.{is_narrow, narrow_tree}
 use Rattle.mapdb_script.specs.TreeAnswers.{page_answer, tree_answer}
-use Rattle.mapdb_script.specs.Standing.{IsFree, MapGoesOn, ShowsTree, StandsFor, behind, shares}
+use Rattle.mapdb_script.specs.Standing.{CopiesStandFor, IsFreeTarget, MapGoesOn, ShowsTree, sent_page, shares}
 use Rattle.mapdb_script.proofs.NarrowTrees.{IsShut, narrow_behind, no_narrow_behind, shut_behind}
 
 -- One command more.
@@ -127,7 +127,7 @@ module _ (log : Log) (T : Tree) (has : (page : Page) → HasNode log T page) (se
   into number = record { space = receiver; number = number }
 
   brought_some : (number : ℕ) → holds t.target number ≡ true
-      → is_some (brought T sender t number) ≡ shares (served log.ops sender (behind t number)) t.rights
+      → is_some (brought T sender t number) ≡ shares (served log.ops sender (sent_page t number)) t.rights
   unfolding from
   brought_some number inside =
       ap (λ (b : Bool). is_some (if b then handed (T.node_at (from number)) (from number) t.rights else None)) inside
@@ -135,7 +135,7 @@ module _ (log : Log) (T : Tree) (has : (page : Page) → HasNode log T page) (se
       ∙ ap (λ (o : Option (ℕ × Rights)). shares o t.rights) (sym (has (from number)).served_with)
 
   -- where no page is occupied, what would come goes to free pages
-  free_pages : occupied T sender t receiver ≡ None → IsFree (served log.ops) sender (Some t) receiver
+  free_pages : occupied T sender t receiver ≡ None → IsFreeTarget (served log.ops) sender (Some t) receiver
   unfolding into
   free_pages none number inside shared =
       let range = holds_range t.target number inside in
@@ -143,7 +143,7 @@ module _ (log : Log) (T : Tree) (has : (page : Page) → HasNode log T page) (se
       (has (into number)).served_with
       ∙ ap answer_of (both_new (brought T sender t number) (T.node_at (into number)) (brought_some number inside ∙ shared) test)
 
-  free_page : IsFree (served log.ops) sender (Some t) receiver → (number : ℕ) → is_occupied T sender t receiver number ≡ false
+  free_page : IsFreeTarget (served log.ops) sender (Some t) receiver → (number : ℕ) → is_occupied T sender t receiver number ≡ false
   unfolding into from
   free_page free number = elim (cases_Bool (holds t.target number)) [
     | inl inside ↦
@@ -160,7 +160,7 @@ module _ (log : Log) (T : Tree) (has : (page : Page) → HasNode log T page) (se
       ap (λ (b : Bool). if b then Some first else least_page (first + 1) count test) (none first) ∙ least_free test none (first + 1) count
 
   -- and the other way round
-  none_occupied : IsFree (served log.ops) sender (Some t) receiver → occupied T sender t receiver ≡ None
+  none_occupied : IsFreeTarget (served log.ops) sender (Some t) receiver → occupied T sender t receiver ≡ None
   none_occupied free = least_free (is_occupied T sender t receiver) (free_page free) t.target.first_page (page_total t.target)
 
 -- whether the tree goes on with a command that the copy does not refuse
@@ -174,13 +174,13 @@ narrow_on log (Unmap space page rights flush) on = on
 narrow_on log (End space) on = on
 
 module _ (log : Log) (T : Tree) (has : (page : Page) → HasNode log T page) where
-  carried_on : (sender : Space) (o : Option Transfer) (receiver : Space) → IsFree (served log.ops) sender o receiver
+  carried_on : (sender : Space) (o : Option Transfer) (receiver : Space) → IsFreeTarget (served log.ops) sender o receiver
       → occupied_refusal receiver (map_occupied T sender o receiver) ≡ None
   carried_on sender None receiver free = refl
   carried_on sender (Some t) receiver free = ap (occupied_refusal receiver) (none_occupied log T has sender receiver t free)
 
   carried_free : (sender : Space) (o : Option Transfer) (receiver : Space) → occupied_refusal receiver (map_occupied T sender o receiver) ≡ None
-      → IsFree (served log.ops) sender o receiver
+      → IsFreeTarget (served log.ops) sender o receiver
   carried_free sender None receiver none = tt
   carried_free sender (Some t) receiver none = free_pages log T has sender receiver t (not_occupied receiver (occupied T sender t receiver) none)
 
@@ -222,9 +222,9 @@ next_heard accepted at command heard = rw heard refl
 
 -- a command that processor 0's copy accepted
 pub stands_command : (shows after : Bool) (copies : List Log) (accepted : Accepted) (command : Command) (log : Log) (ops : List Op)
-    → StandsFor shows copies accepted → slice_get copies 0 ≡ Some log → IsCommand command → command_outcome log command ≡ Ok ops
+    → CopiesStandFor shows copies accepted → slice_get copies 0 ≡ Some log → IsCommand command → command_outcome log command ≡ Ok ops
     → (IsTrue after ↔ IsTrue shows × CommandGoesOn log command)
-    → StandsFor after (slice_set copies 0 (with_issued log ops)) (with_next accepted 0 command)
+    → CopiesStandFor after (slice_set copies 0 (with_issued log ops)) (with_next accepted 0 command)
 stands_command true true copies accepted command log ops stands there is issues on =
     let shows : ShowsTree log accepted.commands = rw there at stands.1 in
     let goes = (on.0 refl).1 in
@@ -242,13 +242,13 @@ stands_command false true copies accepted command log ops stands there is issues
 stands_command false false copies accepted command log ops stands there is issues on = by (accepted.is_alone) refl stands
   where
     by : (b : Bool) → accepted.is_alone ≡ b → (accepted.is_alone ≡ false) ⊎ (narrow_tree accepted.commands ≡ None)
-        → StandsFor false (slice_set copies 0 (with_issued log ops)) (with_next accepted 0 command)
+        → CopiesStandFor false (slice_set copies 0 (with_issued log ops)) (with_next accepted 0 command)
     by false heard none = rw (next_heard accepted 0 command heard) (inl heard)
     by true alone (inl heard) = absurd (true≢false (sym alone ∙ heard))
     by true alone (inr none) = rw (next_alone accepted command alone) (inr (no_narrow_behind accepted.commands (command ∷ []) none))
 
 -- what the tree has at a page, by the copy
-pub tree_told : (copies : List Log) (accepted : Accepted) (copy : Log) (page : Page) → StandsFor true copies accepted → slice_get copies 0 ≡ Some copy
+pub tree_told : (copies : List Log) (accepted : Accepted) (copy : Log) (page : Page) → CopiesStandFor true copies accepted → slice_get copies 0 ≡ Some copy
     → tree_answer accepted.is_alone accepted.commands page ≡ page_answer (served copy.ops page.space page.number)
 tree_told copies accepted copy page stands there =
     let shows : ShowsTree copy accepted.commands = rw there at stands.1 in

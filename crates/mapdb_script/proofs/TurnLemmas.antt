@@ -9,8 +9,8 @@ use Rattle.mapdb_script.specs.Accepting.{Accepted}
 use Rattle.mapdb_script.specs.Answering.{LineDone, Reply, ScriptCluster, done_by, is_refusal, reply_text}
 use Rattle.mapdb_script.specs.Run.{Responds}
 use Rattle.mapdb_script.specs.Script.{ScriptState, turn_of}
-use Rattle.mapdb_script.specs.Standing.{GoesOn, NamesPlaces, StandsFor}
-use Rattle.mapdb_script.specs.States.{Stands, Turns, beside, net_of, script_state, seen_of}
+use Rattle.mapdb_script.specs.Standing.{CopiesStandFor, NamesPlaces, ShowsAfter}
+use Rattle.mapdb_script.specs.States.{EngineStandsFor, Turns, beside, net_of, script_state, seen_of}
 use Rattle.mapdb_script.specs.declared.engine.Engine.{Engine}
 use Rattle.mapdb_script.specs.declared.faults.ScriptFault.{ScriptFault}
 use Rattle.mapdb_script.specs.declared.faults.ScriptFault.TheVariants as script
@@ -30,9 +30,9 @@ seen_done (Err fault) reply net e = absurd (never e)
     never e = cc
 
 -- a line that is not at fault, and what stands after it
-pub line_seen : (shows after : Bool) (cluster : ScriptCluster) → StandsFor shows cluster.net.copies cluster.accepted → (said : Line) (reply : Reply) (net : Net)
-    → NamesPlaces said → GoesOn shows cluster.net.copies said after → seen_of (done_by cluster said) ≡ Ok (reply, net)
-    → (next : Accepted) × StandsFor (cond (is_refusal reply) shows after) net.copies next
+pub line_seen : (shows after : Bool) (cluster : ScriptCluster) → CopiesStandFor shows cluster.net.copies cluster.accepted → (said : Line) (reply : Reply) (net : Net)
+    → NamesPlaces said → ShowsAfter shows cluster.net.copies said after → seen_of (done_by cluster said) ≡ Ok (reply, net)
+    → (next : Accepted) × CopiesStandFor (cond (is_refusal reply) shows after) net.copies next
     × (done_by cluster said ≡ Ok (record { reply = reply; cluster = record { net = net; accepted = next } }))
 line_seen shows after cluster stands said reply net places on e =
     let seen = seen_done (done_by cluster said) reply net e in
@@ -57,10 +57,10 @@ takes_done old new reply after is tree lines commands refused =
     record { tree = rw is tree; lines = lines; commands = commands; refused = rw is (omega (arith, refused)) }
 
 -- a line that the engine took
-pub turn_seen : (old new : Engine) (accepted : Accepted) (said : Line) (after : Bool) (reply : Reply) (text : List ℕ) → Stands old accepted → NamesPlaces said
-    → GoesOn old.shows_tree old.cluster.copies.items said after → seen_of (done_by (beside old.cluster accepted) said) ≡ Ok (reply, net_of new.cluster)
+pub turn_seen : (old new : Engine) (accepted : Accepted) (said : Line) (after : Bool) (reply : Reply) (text : List ℕ) → EngineStandsFor old accepted → NamesPlaces said
+    → ShowsAfter old.shows_tree old.cluster.copies.items said after → seen_of (done_by (beside old.cluster accepted) said) ≡ Ok (reply, net_of new.cluster)
     → Takes old new reply after → text ≡ reply_text reply
-    → (next : Accepted) × Stands new next × (turn_of (script_state old accepted) (Some said) ≡ Ok (text, script_state new next))
+    → (next : Accepted) × EngineStandsFor new next × (turn_of (script_state old accepted) (Some said) ≡ Ok (text, script_state new next))
 turn_seen old new accepted said after reply text stands places on e takes is =
     let seen = line_seen old.shows_tree after (beside old.cluster accepted) stands said reply (net_of new.cluster) places on e in
     (seen.0, rw takes.tree seen.1, rw (seen.2, is, takes.lines, takes.commands, takes.refused) refl)
@@ -69,7 +69,7 @@ turn_seen old new accepted said after reply text stands places on e takes is =
 pub replied : (new : Engine) (number : ℕ) (turned : Result (List ℕ × ScriptState) LineFault) (text : List ℕ) (result : Result Unit ScriptFault)
     (Puts : List ℕ → Type 0) (Fails : Type 0) → Turns (Ok text) new turned → OnOk result (Puts text)
     → OnErr result ((part : List ℕ) × BeginsWith text part × Puts part) → IfErr result (λ fault. (fault ≡ script.Write) × Fails)
-    → (told : List ℕ) × Puts told × (next : Accepted) × Responds result number (script_state new next) turned told × OnOk result (Stands new next)
+    → (told : List ℕ) × Puts told × (next : Accepted) × Responds result number (script_state new next) turned told × OnOk result (EngineStandsFor new next)
 replied new number turned text (Ok done) Puts Fails turns puts part write = (text, puts, turns.0, turns.2, turns.1)
 replied new number turned text (Err script.Write) Puts Fails turns puts part write = (part.0, part.2, turns.0, rw turns.2 part.1, tt)
 replied new number turned text (Err fault) Puts Fails turns puts part write = absurd (let same = write.0 in cc)

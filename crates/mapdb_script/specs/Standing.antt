@@ -31,10 +31,10 @@ pub record ShowsTree (log : Log) (commands : List Command) : Type 0 where
   pub is : narrow_tree commands ≡ Some tree
 
 -- The copy shows it, or there is no tree to compare it with, now or later.
-abbrev pub StandsFor : Bool → List Log → Accepted → Type 0
-StandsFor true copies accepted = (accepted.is_alone ≡ true)
+abbrev pub CopiesStandFor : Bool → List Log → Accepted → Type 0
+CopiesStandFor true copies accepted = (accepted.is_alone ≡ true)
     × IfSome (slice_get copies 0) (λ log. ShowsTree log accepted.commands)
-StandsFor false copies accepted = (accepted.is_alone ≡ false)
+CopiesStandFor false copies accepted = (accepted.is_alone ≡ false)
     ⊎ (narrow_tree accepted.commands ≡ None)
 
 -- What a line does to that, where it is not refused.
@@ -49,15 +49,15 @@ shares None rights = false
 shares (Some pair) rights = not (is_empty (common pair.1 rights))
 
 -- the number of the sender's page that goes to this page of the target
-abbrev pub behind : Transfer → ℕ → ℕ
-behind transfer number = transfer.source.first_page + (number - transfer.target.first_page)
+abbrev pub sent_page : Transfer → ℕ → ℕ
+sent_page transfer number = transfer.source.first_page + (number - transfer.target.first_page)
 
 -- no page of the receiver that would be mapped shows anything yet
-abbrev pub IsFree : (Space → ℕ → Option Pair) → Space → Option Transfer → Space → Type 0
-IsFree served_at sender None receiver = Unit {0}
-IsFree served_at sender (Some transfer) receiver =
+abbrev pub IsFreeTarget : (Space → ℕ → Option Pair) → Space → Option Transfer → Space → Type 0
+IsFreeTarget served_at sender None receiver = Unit {0}
+IsFreeTarget served_at sender (Some transfer) receiver =
     (number : ℕ) → holds transfer.target number ≡ true
-    → shares (served_at sender (behind transfer number)) transfer.rights ≡ true
+    → shares (served_at sender (sent_page transfer number)) transfer.rights ≡ true
     → served_at receiver number ≡ None
 
 -- so it is at the copy of processor 0, if this is its number
@@ -67,19 +67,19 @@ IsSoAtFirst copies at IsSo = at ≡ 0 → IfSome (slice_get copies 0) IsSo
 -- a Map goes on that is not too wide, and into an empty destination
 abbrev pub MapGoesOn : Log → Space → Option Transfer → Space → Type 0
 MapGoesOn log sender transfer receiver = (carries_narrow transfer ≡ true)
-    × IsFree (served log.ops) sender transfer receiver
+    × IsFreeTarget (served log.ops) sender transfer receiver
 
 -- whether the copy shows the tree after the line
-abbrev pub GoesOn : Bool → List Log → Line → Bool → Type 0
-GoesOn shows copies (line.Processors count) after = IsTrue after
-GoesOn shows copies (line.Map at sender item receiver window) after = IsTrue after
+abbrev pub ShowsAfter : Bool → List Log → Line → Bool → Type 0
+ShowsAfter shows copies (line.Processors count) after = IsTrue after
+ShowsAfter shows copies (line.Map at sender item receiver window) after = IsTrue after
     ↔ IsTrue shows
     × IsSoAtFirst copies at (λ log. MapGoesOn log sender (transfer_of item window) receiver)
-GoesOn shows copies (line.Unmap at space page rights flush) after = IsTrue after
+ShowsAfter shows copies (line.Unmap at space page rights flush) after = IsTrue after
     ↔ IsTrue shows × (at ≡ 0 → names_narrow page ≡ true)
-GoesOn shows copies (line.Deliver message at) after = IsTrue after
+ShowsAfter shows copies (line.Deliver message at) after = IsTrue after
     ↔ IsTrue shows × (at ≡ 0 → ⊥)
-GoesOn shows copies (line.Merge into from) after = IsTrue after
+ShowsAfter shows copies (line.Merge into from) after = IsTrue after
     ↔ IsTrue shows × (into ≡ 0 → ⊥)
-GoesOn shows copies (line.Load at text) after = IsTrue after ↔ IsTrue shows × (at ≡ 0 → ⊥)
-GoesOn shows copies other after = after ≡ shows
+ShowsAfter shows copies (line.Load at text) after = IsTrue after ↔ IsTrue shows × (at ≡ 0 → ⊥)
+ShowsAfter shows copies other after = after ≡ shows

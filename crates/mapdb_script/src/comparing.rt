@@ -71,7 +71,8 @@ fn map_goes_on(
 impl ScriptCluster {
     ghost use Rattle.mapdb_script.specs.Accepting.{Accepted};
     ghost use Rattle.mapdb_script.specs.Answering.{tree_asked};
-    ghost use Rattle.mapdb_script.specs.Standing.{GoesOn, IsSoAtFirst, MapGoesOn, StandsFor};
+    ghost use Rattle.mapdb_script.specs.Standing.{CopiesStandFor, IsSoAtFirst, MapGoesOn};
+    ghost use Rattle.mapdb_script.specs.Standing.{ShowsAfter};
     ghost use Rattle.mapdb_script.specs.States.{Does, beside, net_of};
 
     /// Whether the tree goes on with a Map at a processor, as far as its copy is compared.
@@ -98,17 +99,19 @@ impl ScriptCluster {
     /// Whether processor 0's copy shows the tree, where it did before, once this line is done and
     /// not refused.
     pub(crate) fn shows_tree_after(&self, shows_tree: bool, line: &Line<'_>) -> bool
-        ensures { GoesOn shows_tree (net_of self.now).copies line.now result }
+        ensures { ShowsAfter shows_tree (net_of self.now).copies line.now result }
     {
         match line {
             Line::Processors(_) => true,
-            Line::Map(at, sender, item, receiver, window) => {
-                shows_tree && self.first_goes_on(*at, *sender, item, *receiver, *window)
-            }
-            Line::Unmap(at, _, page, _, _) => {
-                shows_tree && (*at != COMPARED || is_narrow(*page))
-            }
-            Line::Deliver(_, at) | Line::Merge(at, _) | Line::Load(at, _) => {
+            Line::Map {
+                at,
+                sender,
+                item,
+                receiver,
+                window,
+            } => { shows_tree && self.first_goes_on(*at, *sender, item, *receiver, *window) }
+            Line::Unmap { at, page, .. } => { shows_tree && (*at != COMPARED || is_narrow(*page)) }
+            Line::Deliver { at, .. } | Line::Merge { into: at, .. } | Line::Load { at, .. } => {
                 shows_tree && *at != COMPARED
             }
             _ => shows_tree,
@@ -122,7 +125,8 @@ impl ScriptCluster {
         space: Space,
         address: u64,
     ) -> Result<Reply, TurnFault>
-        ensures { (accepted : Accepted) → StandsFor shows_tree (net_of self.now).copies accepted
+        ensures { (accepted : Accepted)
+            → CopiesStandFor shows_tree (net_of self.now).copies accepted
             → Does result (net_of self.now) (tree_asked (beside self.now accepted) space address) }
     {
         let Some(copy) = self.copies.as_slice().first() else {

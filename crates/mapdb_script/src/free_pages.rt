@@ -3,7 +3,7 @@
 ghost use Rattle.std.specs.Prelude.{◌≡◌, ◌≤◌, ◌<◌, ◌+◌, ◌↔◌, ℕ, IsTrue, Some, false, true};
 ghost use Rattle.mapdb_fpage.specs.Place.{page_total};
 ghost use Rattle.mapdb_replica.specs.Served.{served};
-ghost use Rattle.mapdb_script.specs.Standing.{IsFree, behind, shares};
+ghost use Rattle.mapdb_script.specs.Standing.{IsFreeTarget, sent_page, shares};
 
 use mapdb_facts::Space;
 use mapdb_fpage::{PAGE_LIMIT, Rights, Transfer};
@@ -20,11 +20,11 @@ fn shares(found: Option<(u64, Rights)>, rights: Rights) -> bool
 }
 
 /// The number of the sender's page that goes to this page of the target.
-fn behind(carried: &Transfer, number: u64) -> u64
+fn sent_page(carried: &Transfer, number: u64) -> u64
     requires order { carried.now.source.order ≡ carried.now.target.order }
     requires first { carried.now.target.first_page ≤ number }
     requires last { number < carried.now.target.first_page + page_total carried.now.target }
-    ensures is { result ≡ behind carried.now number }
+    ensures is { result ≡ sent_page carried.now number }
     ensures page { result < PAGE_LIMIT }
 {
     let offset = number - carried.target.first_page();
@@ -38,15 +38,15 @@ fn brings_some(copy: &Replica, sender: Space, carried: &Transfer, first: u64, en
     requires end { end ≤ carried.now.target.first_page + page_total carried.now.target }
     requires limit { end ≤ PAGE_LIMIT }
     ensures some { result ≡ true → (number : ℕ) × (first ≤ number) × (number < end)
-        × (shares (served copy.now.ops sender (behind carried.now number)) carried.now.rights
+        × (shares (served copy.now.ops sender (sent_page carried.now number)) carried.now.rights
         ≡ true) }
     ensures none { result ≡ false → (number : ℕ) → first ≤ number → number < end
-        → shares (served copy.now.ops sender (behind carried.now number)) carried.now.rights
+        → shares (served copy.now.ops sender (sent_page carried.now number)) carried.now.rights
         ≡ false }
 {
     let mut page = first;
     'pages: while page < end {
-        let from = behind(carried, page);
+        let from = sent_page(carried, page);
         let here = copy.steady_at(sender, from);
         if shares(here.served, carried.rights) {
             return true;
@@ -59,7 +59,8 @@ fn brings_some(copy: &Replica, sender: Space, carried: &Transfer, first: u64, en
 /// Whether no page of the receiver that a Map would bring something to shows anything yet.
 pub(crate) fn is_free(copy: &Replica, sender: Space, carried: &Transfer, receiver: Space) -> bool
     requires { carried.now.source.order ≡ carried.now.target.order }
-    ensures { IsTrue result ↔ IsFree (served copy.now.ops) sender (Some carried.now) receiver }
+    ensures { IsTrue result
+        ↔ IsFreeTarget (served copy.now.ops) sender (Some carried.now) receiver }
 {
     let end = carried.target.end();
     let mut page = carried.target.first_page();

@@ -3,7 +3,7 @@ ghost use Rattle.std.specs.Prelude.{◌≡◌, ◌∷◌, [], ◌++◌, ◌+◌,
 ghost use Rattle.std.specs.Prelude.{map, bit_or, IsTrue, ◌↔◌, OnOk, OnErr, IfOk, slice_range};
 ghost use Rattle.std.specs.List.{All, splice};
 ghost use Rattle.mapdb_join.specs.Runs.{Ascends, HasOver, IsOver, IsRuns, count_below, last_bits};
-ghost use Rattle.mapdb_join.specs.Tidy.{front, region, tidy, with_bits};
+ghost use Rattle.mapdb_join.specs.Tidy.{front, one_run, region, tidy, with_bits};
 ghost use Rattle.mapdb_join.specs.declared.runs.starts.Start.{Start};
 
 use crate::runs::bounds::{BITS_LIMIT, RUN_LIMIT};
@@ -128,6 +128,18 @@ fn change_over(
     Ok(Change { low, high, list })
 }
 
+/// Makes one run of an empty list, in memory for it alone. The only error is that memory ran out.
+fn begin_with(starts: &mut Vec<Start>, first: u64, end: u64, bits: u8) -> Result<(), AllocError>
+    requires { starts.old.items ≡ [] }
+    ensures ok { OnOk result (starts.new.items ≡ one_run first end bits) }
+    ensures err { OnErr result (starts.new.items ≡ starts.old.items) }
+{
+    starts.reserve_exact(2)?;
+    starts.push_reserved(Start { page: first, bits });
+    starts.push_reserved(Start { page: end, bits: 0 });
+    Ok(())
+}
+
 /// Adds bits to each page of a region that is not empty. The only error is that memory ran out, and
 /// then nothing has changed.
 pub(crate) fn add_over(
@@ -144,6 +156,9 @@ pub(crate) fn add_over(
     ensures over { OnOk result (IsOver first end bits starts.old.items starts.new.items) }
     ensures err { OnErr result (starts.new.items ≡ starts.old.items) }
 {
+    if bits != 0 && starts.is_empty() {
+        return begin_with(starts, first, end, bits);
+    }
     let Change { low, high, list } = change_over(alloc, starts.as_slice(), first, end, bits)?;
     replace(starts, low, high, list)?;
     Ok(())

@@ -34,7 +34,7 @@ pub fn settle_all(
     ensures { OnOk result (Stands changes.new listed.new live.new (state_of_facts facts.now)) }
 {
     list_sources(listed, facts)?;
-    let mut stack = Vec::new(alloc);
+    let mut stack = SmallVec::new(alloc);
     stack.push(Stale {
         id: RecordId::ROOT,
         first: 0,

@@ -18,11 +18,12 @@ use super::stale::Stale;
 use mapdb_facts::{Facts, Record, RecordId, Space};
 use mapdb_fpage::PAGE_LIMIT;
 use mapdb_lists::{OwnPlaces, Owner, Places, Sweep};
+use smallvec::SmallVec;
 use std::alloc::AllocError;
 
 /// The pages of the child whose source pages are among these join what is stale.
 fn push_child(
-    stack: &mut Vec<Stale>,
+    stack: &mut SmallVec<Stale, 4>,
     child: &Record,
     first: u64,
     end: u64,
@@ -52,7 +53,7 @@ fn push_child(
 
 /// The pages of a child, if it is one of this parent, join what is stale.
 fn push_held(
-    stack: &mut Vec<Stale>,
+    stack: &mut SmallVec<Stale, 4>,
     facts: &Facts,
     parent: RecordId,
     id: RecordId,
@@ -77,7 +78,7 @@ fn push_held(
 /// The children of the parent that these places are the sources of: their pages that come from
 /// these pages join what is stale.
 fn push_sources(
-    stack: &mut Vec<Stale>,
+    stack: &mut SmallVec<Stale, 4>,
     own: &OwnPlaces,
     facts: &Facts,
     parent: RecordId,
@@ -106,8 +107,9 @@ fn push_sources(
 
 /// The children of the parent whose source meets these pages: their pages that come from there join
 /// what is stale.
+#[inline(always)]
 pub(crate) fn push_children(
-    stack: &mut Vec<Stale>,
+    stack: &mut SmallVec<Stale, 4>,
     listed: &Places,
     facts: &Facts,
     parent: RecordId,
@@ -133,7 +135,7 @@ pub(crate) fn push_children(
 }
 
 /// The pages of a record's place join what is stale.
-fn push_place(stack: &mut Vec<Stale>, facts: &Facts, id: RecordId) -> Result<(), AllocError>
+fn push_place(stack: &mut SmallVec<Stale, 4>, facts: &Facts, id: RecordId) -> Result<(), AllocError>
     ensures kept { OnOk result ((other : RecordId) (page : ℕ)
         → IsPending stack.old.items other page → IsPending stack.new.items other page) }
     ensures stale { OnOk result ((r : Record) → (state_of_facts facts.now).record_at id ≡ Some r
@@ -151,7 +153,11 @@ fn push_place(stack: &mut Vec<Stale>, facts: &Facts, id: RecordId) -> Result<(),
 }
 
 /// The pages of all records that stand at these places join what is stale.
-fn push_places(stack: &mut Vec<Stale>, own: &OwnPlaces, facts: &Facts) -> Result<(), AllocError>
+fn push_places(
+    stack: &mut SmallVec<Stale, 4>,
+    own: &OwnPlaces,
+    facts: &Facts,
+) -> Result<(), AllocError>
     requires { AreAligned (own_list own.now) }
     ensures { OnOk result ((r : Record) → Holds (state_of_facts facts.now) r → IsPlace r.place
         → stands (own_list own.now) (own_place (place_of r)) ≡ true → (page : ℕ)
@@ -167,7 +173,7 @@ fn push_places(stack: &mut Vec<Stale>, own: &OwnPlaces, facts: &Facts) -> Result
 
 /// The pages of all records into a space that have a right at some page join what is stale.
 pub(crate) fn push_space(
-    stack: &mut Vec<Stale>,
+    stack: &mut SmallVec<Stale, 4>,
     live: &Places,
     facts: &Facts,
     space: Space,

@@ -33,7 +33,7 @@ pub fn follow_record(
     ensures { OnOk result (Stands changes.new listed.new live.new (state_of_facts facts.now)) }
 {
     list_came(listed, facts, mapping)?;
-    let mut stack = Vec::new(alloc);
+    let mut stack = SmallVec::new(alloc);
     stack.push(Stale {
         id: mapping.id,
         first: mapping.place.first_page(),
@@ -60,7 +60,7 @@ pub fn follow_cut(
         (state_of_facts facts.now) }
     ensures { OnOk result (Stands changes.new listed.new live.new (state_of_facts facts.now)) }
 {
-    let mut stack = Vec::new(alloc);
+    let mut stack = SmallVec::new(alloc);
     stack.push(Stale {
         id: cut.target,
         first: cut.part.first_page(),
@@ -86,7 +86,7 @@ pub fn follow_end(
         (state_of_facts facts.now) }
     ensures { OnOk result (Stands changes.new listed.new live.new (state_of_facts facts.now)) }
 {
-    let mut stack = Vec::new(alloc);
+    let mut stack = SmallVec::new(alloc);
     push_space(&mut stack, live, facts, space)?;
     let mut idle = SmallVec::new(alloc);
     settle(changes, live, &mut idle, &mut stack, listed, facts)?;

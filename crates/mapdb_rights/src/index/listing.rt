@@ -52,6 +52,7 @@ pub(crate) fn source_of(mapping: &Record) -> Listed
 }
 
 /// Lists one place more.
+#[inline(always)]
 pub(crate) fn list_place(listed: &mut Places, place: Listed) -> Result<(), AllocError>
     requires place { IsAligned place }
     requires aligned { AllAligned listed.old }

@@ -59,6 +59,7 @@ fn unlist_live(live: &mut Places, facts: &Facts, id: RecordId)
 /// After rights of a record were written over pages: its place is listed where it had no right
 /// before and has one now, and goes where it had one and has none; its name is noted then. An error
 /// where memory ran out.
+#[inline(always)]
 pub(crate) fn follow_live(
     live: &mut Places,
     idle: &mut SmallVec<RecordId, 4>,

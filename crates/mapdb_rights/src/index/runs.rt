@@ -46,6 +46,7 @@ fn run_start(changes: &AllChanges, id: RecordId, page: u64) -> Option<u64>
 }
 
 /// Whether the record, which has these rights at this page, has a right at some page.
+#[inline(always)]
 pub(crate) fn has_some(changes: &AllChanges, id: RecordId, near: u64, rights: Rights) -> bool
     requires near { rights ≡ cached_in changes.now.own.entries id near }
     ensures some { result ≡ true → HasSome (cached_in changes.now.own.entries id) }

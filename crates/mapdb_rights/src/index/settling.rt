@@ -30,11 +30,12 @@ use std::alloc::AllocError;
 /// Pages over which all is steady get what follows from the parent. Where the rights are others
 /// than before, the record's place comes to those with rights or goes from them, with its name
 /// noted, and the pages of children that come from there join what is stale.
+#[inline(always)]
 fn settle_run(
     changes: &mut AllChanges,
     live: &mut Places,
     idle: &mut SmallVec<RecordId, 4>,
-    stack: &mut Vec<Stale>,
+    stack: &mut SmallVec<Stale, 4>,
     listed: &Places,
     facts: &Facts,
     run: Stale,
@@ -81,7 +82,8 @@ fn settle_run(
 }
 
 /// Those of the pages that begin at the end of a run stay stale.
-fn keep_rest(stack: &mut Vec<Stale>, stale: Stale, end: u64) -> Result<(), AllocError>
+#[inline(always)]
+fn keep_rest(stack: &mut SmallVec<Stale, 4>, stale: Stale, end: u64) -> Result<(), AllocError>
     ensures pending { OnOk result ((id : RecordId) (page : ℕ) → IsPending stack.old.items id page
         → IsPending stack.new.items id page) }
     ensures rest { OnOk result ((id : RecordId) (page : ℕ)
@@ -101,11 +103,12 @@ fn keep_rest(stack: &mut Vec<Stale>, stale: Stale, end: u64) -> Result<(), Alloc
 }
 
 /// Settles the first of these pages, as far as all is steady. The others stay stale.
+#[inline(always)]
 fn settle_next(
     changes: &mut AllChanges,
     live: &mut Places,
     idle: &mut SmallVec<RecordId, 4>,
-    stack: &mut Vec<Stale>,
+    stack: &mut SmallVec<Stale, 4>,
     listed: &Places,
     facts: &Facts,
     stale: Stale,
@@ -146,7 +149,7 @@ pub fn settle(
     changes: &mut AllChanges,
     live: &mut Places,
     idle: &mut SmallVec<RecordId, 4>,
-    stack: &mut Vec<Stale>,
+    stack: &mut SmallVec<Stale, 4>,
     listed: &Places,
     facts: &Facts,
 ) -> Result<(), AllocError>

@@ -19,3 +19,14 @@ pub struct Stale {
     ghost limit: { end ≤ page_limit },
     ghost named: { id.number < number_limit },
 }
+
+/// No pages of the root. What a list has room for holds it.
+impl Default for Stale {
+    fn default() -> Stale {
+        Stale {
+            id: RecordId::ROOT,
+            first: 0,
+            end: 0,
+        }
+    }
+}

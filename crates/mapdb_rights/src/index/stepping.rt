@@ -29,6 +29,7 @@ pub struct Step {
 
 /// The rights that are taken from a record at a page, and the end of the pages from it on at which
 /// they are.
+#[inline(always)]
 fn taken_at(facts: &Facts, id: RecordId, page: u64) -> (Rights, u64)
     requires { page < PAGE_LIMIT }
     ensures above { page < result.1 }
@@ -61,6 +62,7 @@ fn root_given(facts: &Facts, id: RecordId, page: u64) -> Stretch
 
 /// These rights, with frames so far off: where there are none, nothing is said of frames, and what
 /// is cached is as it was before any change.
+#[inline(always)]
 fn change_of(rights: Rights, shift: u64) -> Change
     ensures rights { result.rights ≡ rights }
     ensures shift { is_empty rights ≡ false → result.shift ≡ shift }
@@ -72,6 +74,7 @@ fn change_of(rights: Rights, shift: u64) -> Change
 
 /// What a record whose space lives has from a page of its place on, by what is cached of its
 /// parent.
+#[inline(always)]
 fn child_given(changes: &AllChanges, facts: &Facts, mapping: &Record, page: u64) -> Stretch
     requires child { is_root mapping.now.id ≡ false }
     requires held { (state_of_facts facts.now).record_at mapping.now.id ≡ Some mapping.now }
@@ -94,6 +97,7 @@ fn child_given(changes: &AllChanges, facts: &Facts, mapping: &Record, page: u64)
 }
 
 /// What follows from a record's parent at a page, and how far that goes on.
+#[inline(always)]
 fn given_at(changes: &AllChanges, facts: &Facts, id: RecordId, page: u64) -> Stretch
     requires { page < PAGE_LIMIT }
     ensures { IsGiven (state_of_facts facts.now) changes.now.own.entries id page result }
@@ -114,6 +118,7 @@ fn given_at(changes: &AllChanges, facts: &Facts, id: RecordId, page: u64) -> Str
 }
 
 /// What is cached of a record at a page, and what follows there from its parent.
+#[inline(always)]
 pub(crate) fn step_at(changes: &AllChanges, facts: &Facts, id: RecordId, page: u64) -> Step
     requires { page < PAGE_LIMIT }
     ensures { IsStep (state_of_facts facts.now) changes.now.own.entries id page result }

@@ -8,7 +8,7 @@ pages-preserved c =
     let steady = c.steady_at-here.ensures.steady in
     record {
       above = omega (arith, c.pages.invariant.above);
-      none = none_on (served c.args.copy.now.ops c.args.sender) c.args.carried.now c.args.first c.pages.page c.behind-from.result _
-          c.steady_at-here.result c.requires.first c.pages.invariant.above c.pages.invariant.none c.behind-from.ensures.is
+      none = none_on (served c.args.copy.now.ops c.args.sender) c.args.carried.now c.args.first c.pages.page c.sent_page-from.result _
+          c.steady_at-here.result c.requires.first c.pages.invariant.above c.pages.invariant.none c.sent_page-from.ensures.is
           c.steady_at-here.ensures.page steady (sym c.shares.ensures ∙ c.if-shares.false) refl;
     }

@@ -22,7 +22,7 @@ settle-requires-clause-settled c =
     let S : State = state_of_facts c.args.facts.now in
     subst (λ e. AreSettledBut S (cached_in e) c.push_children.new.stack.items) (sym c.requires.changes)
     (left_from_nothing S c.push_children.new.stack.items
-    (λ page below. c.in_ok-push_children.ensures.kept root page (rw c.in_ok-push.ensures.items (pending_last _ _ root page (to_covers root 0 page_limit page (omega arith) below))))
+    (λ page below. c.in_ok-push_children.ensures.kept root page (rw c.in_ok-push.ensures.ok (pending_last _ _ root page (to_covers root 0 page_limit page (omega arith) below))))
     (λ id r held parent page inside.
     let named = c.in_ok-list_sources.ensures.listed.named id r held in
     let own : S.record_at r.id ≡ Some r = ap S.record_at named ∙ held in
