@@ -6,8 +6,8 @@
 #include "mapped.h"
 
 /*
- * How a copy stands whose second map had a request refused: what it answers, and its blocks then
- * and after one operation more.
+ * How a copy stands whose last map had a request refused: what it answers, and its blocks then and
+ * after one operation more. So many maps come before it that its lists have to grow.
  */
 typedef struct standing {
     uint32_t status;
@@ -18,6 +18,7 @@ typedef struct standing {
 static standing mapped_with(unsigned long refused)
 {
     const mapdb_space three = {3, 0};
+    mapdb_space next = {4, 0};
     mapdb_copy copy = created(0);
     mapdb_issued issued;
     mapdb_found found = {0, 0, 0};
@@ -28,6 +29,10 @@ static standing mapped_with(unsigned long refused)
     int turn;
 
     CHECK(map(&copy, root, page, two, &issued), MAPDB_DONE);
+    for (; next.number < 7; next.number++) {
+        CHECK(map(&copy, root, page, next, &issued), MAPDB_DONE);
+        CHECK(mapdb_end(&copy, next, &issued), MAPDB_DONE);
+    }
     heap_requests = 0;
     heap_refused = refused;
     answer.status = map(&copy, two, fpage(0x48000, 14, MAPDB_READ), one, &issued);
