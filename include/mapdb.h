@@ -3,8 +3,9 @@
  *
  * Each processor has a copy of its own. A command (Map, Unmap, the end of a space) is done at one
  * copy, at once, and issues operations there. The kernel carries operations from copy to copy, in
- * any order and as often as it likes; copies that took the same operations answer each query alike.
- * docs/KERNELS.md says what a kernel does beside that.
+ * any order and as often as it likes; copies that took the same operations answer each query alike
+ * (mapdb_counts tells how many operations are kept, which may differ). docs/KERNELS.md says what a
+ * kernel does beside that.
  *
  * Link libmapdb_c.a. It wants memcpy, memmove and memset as of C (memcpy also from a place to
  * itself, and all three with size 0 whatever the pointers), and three functions for its heap, which
@@ -334,13 +335,13 @@ MAPDB_CALL uint32_t mapdb_map_words(mapdb_copy *copy, mapdb_space sender, uint64
     uint64_t second, mapdb_space receiver, uint64_t window, mapdb_issued *issued);
 
 /*
- * Unmap: takes the page's rights, on its pages, from all that other spaces received from this space
- * there, directly or through others; with a flush that is not 0 from the space itself too. What
- * this copy does not know yet loses them when it comes, where it comes from a child that this copy
- * knew, and with a flush also where it comes from a record of the space's own there that this copy
- * knew. Another record of the space's own there, which this copy does not know, keeps its rights,
- * and so does what comes from it. Without a flush a child of the space's own pages that this copy
- * does not know keeps its rights. Also:
+ * Unmap: takes the page's rights, on its pages, from all that came from this space's pages there,
+ * directly or through others, also where this space received it itself; with a flush that is not 0
+ * from those pages too. What this copy does not know yet loses them when it comes, where it comes
+ * from a child that this copy knew, and with a flush also where it comes from a record of the
+ * space's own there that this copy knew. Another record of the space's own there, which this copy
+ * does not know, keeps its rights, and so does what comes from it. Without a flush a child of the
+ * space's own pages that this copy does not know keeps its rights. Also:
  *   MAPDB_BAD_SPACE, and those of the page as of mapdb_map. MAPDB_ROOT_SPACE is none: the first
  *     space may unmap. With a flush it loses the rights to these frames itself, for good, and
  *     nobody can map them again.
@@ -447,7 +448,9 @@ MAPDB_CALL uint32_t mapdb_run_end(mapdb_copy *copy, mapdb_space space, uint64_t 
 MAPDB_CALL uint32_t mapdb_covers(mapdb_copy *copy, mapdb_copy *other, bool *answer);
 
 /*
- * Whether both hold the same. Then each query answers alike at both.
+ * Whether both hold the same. Then mapdb_served and mapdb_rights, and so the table and the
+ * snapshot, are alike at both; mapdb_counts need not be, since what is kept depends on the order in
+ * which it came.
  *   MAPDB_NO_COPY: *answer is not written.
  */
 MAPDB_CALL uint32_t mapdb_same(mapdb_copy *copy, mapdb_copy *other, bool *answer);

@@ -156,10 +156,11 @@ impl Replica {
         Ok(records(&issued))
     }
 
-    /// Takes the page's rights from all that other spaces received there, and with `flush` from the
-    /// space too. Without `flush` a child of the space's own pages that this copy has not seen
-    /// keeps its rights, and so does, even with it, a record of the space itself that this copy has
-    /// not seen. It answers how many operations were issued.
+    /// Takes the page's rights from all that came from the space's pages there, also where the
+    /// space received it itself, and with `flush` from those pages too. Without `flush` a child of
+    /// the space's own pages that this copy has not seen keeps its rights, and so does, even with
+    /// it, a record of the space itself that this copy has not seen. It answers how many operations
+    /// were issued. Errors: as of `mapdb_unmap` (include/mapdb.h).
     pub fn unmap(&mut self, space: Space, page: &Fpage, flush: bool) -> Result<u64, IssueError> {
         let mut issued = Issued::default();
         // SAFETY: as of `map`.
@@ -169,7 +170,7 @@ impl Replica {
         Ok(issued.count)
     }
 
-    /// Unmaps by an fpage word.
+    /// Unmaps by an fpage word. Errors: as of `mapdb_unmap_word`.
     pub fn unmap_word(&mut self, space: Space, word: u64, flush: bool) -> Result<u64, IssueError> {
         let mut issued = Issued::default();
         // SAFETY: as of `map`.
@@ -180,7 +181,7 @@ impl Replica {
         Ok(issued.count)
     }
 
-    /// Ends a space, for good.
+    /// Ends a space, for good. Errors: as of `mapdb_end`.
     pub fn end(&mut self, space: Space) -> Result<(), IssueError> {
         let mut issued = Issued::default();
         // SAFETY: as of `map`.
@@ -188,7 +189,8 @@ impl Replica {
         issue_answer(number, &issued)
     }
 
-    /// Takes operations of other copies, as one batch, and answers how many were new.
+    /// Takes operations of other copies, as one batch, and answers how many were new. Errors: as of
+    /// `mapdb_take`.
     pub fn take(&mut self, batch: &[Operation]) -> Result<u64, TakeError> {
         let mut taken = Taken::default();
         // SAFETY: as of `map`; the array has so many operations, and its pointer is never null.
@@ -306,7 +308,8 @@ impl Replica {
         answer
     }
 
-    /// Whether both hold the same. Then each query answers alike at both.
+    /// Whether both hold the same. Then `served` and `rights` answer alike at both, and so do
+    /// `table` and `snapshot`; `counts` need not.
     pub fn same(&mut self, other: &mut Replica) -> bool {
         let mut answer = false;
         // SAFETY: as of `covers`.
@@ -346,7 +349,8 @@ impl Replica {
         room_answer(number, count)
     }
 
-    /// Takes what a snapshot says, as one batch, and answers how many operations were new.
+    /// Takes what a snapshot says, as one batch, and answers how many operations were new. Errors:
+    /// as of `mapdb_load`.
     pub fn load(&mut self, text: &[u8]) -> Result<u64, TakeError> {
         let mut taken = Taken::default();
         // SAFETY: as of `take`.

@@ -45,7 +45,8 @@ pub extern "C" fn mapdb_covers(
     Status::Done.number()
 }
 
-/// Whether both copies hold the same. Then each query answers alike at both. The handles are two.
+/// Whether both copies hold the same. Then what is served and visible at each page is alike at
+/// both. The handles are two.
 #[unsafe(no_mangle)]
 pub extern "C" fn mapdb_same(
     alloc: Global,

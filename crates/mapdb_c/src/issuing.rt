@@ -150,8 +150,8 @@ pub extern "C" fn mapdb_map_words(
     issue(alloc, handle, command, issued)
 }
 
-/// Takes the rights of an fpage from all that other spaces received of the space's pages there, and
-/// with a flush that is not 0 from the space too.
+/// Takes the rights of an fpage from all that came from the space's pages there, also where the
+/// space received it itself, and with a flush that is not 0 from those pages too.
 #[unsafe(no_mangle)]
 pub extern "C" fn mapdb_unmap(
     alloc: Global,

@@ -23,7 +23,7 @@ pub struct Block {
 impl Block {
     ghost use Rattle.mapdb_lines.specs.Blocks.{Passes, waiting};
 
-    /// Nothing waits.
+    /// Nothing waits. The only error is that memory ran out.
     pub fn new(alloc: Global) -> Result<Self, AllocError>
         ensures { IfOk result (λ block. waiting block ≡ []) }
     {

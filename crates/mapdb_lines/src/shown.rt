@@ -8,7 +8,8 @@ use mapdb_facts::{RecordId, Space};
 use mapdb_fpage::Rights;
 use std::alloc::{AllocError, Global};
 
-/// Writes the name of a record behind a text: its number, a point, and its processor.
+/// Writes the name of a record behind a text: its number, a point, and its processor. The only
+/// error is that memory ran out; nothing is said of the text then.
 pub fn push_name(text: &mut String, id: RecordId) -> Result<(), AllocError>
     ensures { OnOk result (string_bytes text.new ≡ string_bytes text.old ++ name_text id) }
 {
@@ -17,7 +18,7 @@ pub fn push_name(text: &mut String, id: RecordId) -> Result<(), AllocError>
     write!(text, "{number}.{processor}")
 }
 
-/// The name of a record.
+/// The name of a record. The only error is that memory ran out.
 pub fn name_text(alloc: Global, id: RecordId) -> Result<String, AllocError>
     ensures { IfOk result (λ text. string_bytes text ≡ name_text id) }
 {
@@ -27,7 +28,7 @@ pub fn name_text(alloc: Global, id: RecordId) -> Result<String, AllocError>
 }
 
 /// Writes a space behind a text: its number, and behind a point its version, where that is not the
-/// first.
+/// first. The only error is that memory ran out; nothing is said of the text then.
 pub fn push_space(text: &mut String, space: Space) -> Result<(), AllocError>
     ensures { OnOk result (string_bytes text.new ≡ string_bytes text.old ++ space_text space) }
 {
@@ -39,7 +40,7 @@ pub fn push_space(text: &mut String, space: Space) -> Result<(), AllocError>
     write!(text, "{number}.{version}")
 }
 
-/// A space.
+/// A space. The only error is that memory ran out.
 pub fn space_text(alloc: Global, space: Space) -> Result<String, AllocError>
     ensures { IfOk result (λ text. string_bytes text ≡ space_text space) }
 {
@@ -48,7 +49,8 @@ pub fn space_text(alloc: Global, space: Space) -> Result<String, AllocError>
     Ok(text)
 }
 
-/// Writes a page or a frame behind a text, in at least five hexadecimal digits.
+/// Writes the number of a page or a frame behind a text, in at least five hexadecimal digits. The
+/// only error is that memory ran out; nothing is said of the text then.
 #[tactic(auto, using(crate::proofs::ShownLemmas::padded_frame))]
 pub fn push_frame(text: &mut String, frame: u64) -> Result<(), AllocError>
     ensures { OnOk result (string_bytes text.new ≡ string_bytes text.old ++ frame_text frame) }
@@ -56,7 +58,7 @@ pub fn push_frame(text: &mut String, frame: u64) -> Result<(), AllocError>
     write!(text, "{frame:05x}")
 }
 
-/// A page or a frame.
+/// The number of a page or a frame. The only error is that memory ran out.
 pub fn frame_text(alloc: Global, frame: u64) -> Result<String, AllocError>
     ensures { IfOk result (λ text. string_bytes text ≡ frame_text frame) }
 {
@@ -65,7 +67,8 @@ pub fn frame_text(alloc: Global, frame: u64) -> Result<String, AllocError>
     Ok(text)
 }
 
-/// Writes rights behind a text: `rwx`, with a dash in the place of a missing right.
+/// Writes rights behind a text: `rwx`, with a dash in the place of a missing right. The only error
+/// is that memory ran out; nothing is said of the text then.
 #[tactic(auto, using(crate::proofs::ShownLemmas::letter_bytes))]
 pub fn push_letters(text: &mut String, rights: Rights) -> Result<(), AllocError>
     ensures { OnOk result (string_bytes text.new ≡ string_bytes text.old ++ text_of rights) }
@@ -76,7 +79,8 @@ pub fn push_letters(text: &mut String, rights: Rights) -> Result<(), AllocError>
     text.push(char::from(execute))
 }
 
-/// Rights: `rwx`, with a dash in the place of a missing right.
+/// Rights: `rwx`, with a dash in the place of a missing right. The only error is that memory ran
+/// out.
 pub fn letters(alloc: Global, rights: Rights) -> Result<String, AllocError>
     ensures { IfOk result (λ text. string_bytes text ≡ text_of rights) }
 {

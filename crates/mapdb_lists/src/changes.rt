@@ -206,7 +206,9 @@ fn write_among(
     own_changes.insert(id, own)
 }
 
-/// Gives rights and frames to pages of a record over which one change stands.
+/// Gives a change to the pages of a record, by number, from `first` on up to before `end`, over
+/// which one change stands: `was`. An error where memory ran out; nothing is said of the changes
+/// then.
 #[inline(always)]
 pub fn write(
     changes: &mut AllChanges,

@@ -152,6 +152,8 @@ Words of a line:
   SEND        FPAGE:RIGHTS, the rights as rwx with - for each one that is missing
   TEXT        a snapshot, as save writes it behind `snapshot `, to the end of the line
 
+A reply tells a page or a frame by its number, its address divided by 4096, in hexadecimal.
+
 Example, where the window is larger than the fpage and the send base says where in it:
   $ printf 'processors 1\\nmap 0 0 10000/14:rw- 8000 1 40000/16\\nrights 0 1 48000\\n' | l4map run
   records 1.0

@@ -12,7 +12,7 @@ use mapdb_facts::{Facts, RecordId, Space};
 use mapdb_fpage::{PAGE_LIMIT, Rights};
 use mapdb_rights::{RightsIndex, live_after, rights_of, steady_until};
 
-/// The rights of a record at a page: none where it is not held.
+/// The rights of a record, or of the root, at a page: none where the record is not held.
 pub(crate) fn held_rights(facts: &Facts, index: &RightsIndex, id: RecordId, page: u64) -> Rights
     requires { KeepsUp index.now (state_of_facts facts.now) }
     ensures { result ≡ rights_at (state_of_facts facts.now) id page }

@@ -48,9 +48,9 @@ impl RightsIndex {
         Ok(Some(found))
     }
 
-    /// The records of a space that have a right at some page and whose places share pages with this
-    /// one, in ascending order of name: all but some of the space's records without any right. None
-    /// where the index is absent. An error where memory ran out for the list.
+    /// The records of a space whose places share pages with this one, in ascending order of name.
+    /// Some may be left out that have no right at any page. None where the index is absent. An
+    /// error where memory ran out for the list.
     pub fn live_holders(
         &self,
         facts: &Facts,

@@ -59,8 +59,8 @@ impl RightsIndex {
         Ok(Some(names))
     }
 
-    /// The end of pages, from one on, over which a record has equal rights; a name that is not held
-    /// has none. None where the index is absent. It takes no memory.
+    /// The end of pages, from one on, over which a record, or the root, has equal rights; any other
+    /// name that is not held has none. None where the index is absent. It takes no memory.
     pub fn unchanged_until(&self, id: RecordId, page: u64) -> Option<u64>
         requires page { page < page_limit }
         ensures absent { self.now.absent ≡ true → result ≡ None }

@@ -149,8 +149,8 @@ impl RightsIndex {
         }
     }
 
-    /// The rights of a record at a page, none for a name that is not held. None where the index is
-    /// absent.
+    /// The rights of a record at a page: the root's too, and none for any other name that is not
+    /// held. None where the index is absent.
     pub fn right_at(&self, id: RecordId, page: u64) -> Option<Rights>
         ensures absent { self.now.absent ≡ true → result ≡ None }
         ensures rights { (S : State) → StandsFor self.now S → result ≡ Some (rights_at S id page) }
@@ -162,8 +162,8 @@ impl RightsIndex {
         }
     }
 
-    /// What a record has at a page, its frame and its rights: no pair where it has no right there,
-    /// or is not held. None where the index is absent.
+    /// What a record, or the root, has at a page, its frame and its rights: no pair where it has no
+    /// right there, or is not held. None where the index is absent.
     pub fn pair_at(&self, id: RecordId, page: u64) -> Option<Option<(u64, Rights)>>
         ensures absent { self.now.absent ≡ true → result ≡ None }
         ensures pair { (S : State) → StandsFor self.now S → result ≡ Some (pair_at S id page) }
