@@ -1,6 +1,6 @@
 -- Values by the name of a record, and where a name stands among those that came.
 use Rattle.std.specs.Prelude.{◌≡◌, ℕ, suc, List, [], ◌∷◌, Option, Some, None, option_map}
-use Rattle.std.specs.Prelude.{if◌then◌else◌}
+use Rattle.std.specs.Prelude.{if◌then◌else◌, ◌++◌, map}
 use Rattle.std.specs.List.{zip}
 use Rattle.std.specs.Map.{lookup}
 use Rattle.mapdb_facts.specs.Names.{same_id}
@@ -24,3 +24,16 @@ place_of id (name ∷ names) =
 abbrev pub IsInserted : {V : Type 0} → NamedValues V → RecordId → V → NamedValues V → Type 0
 IsInserted old id value new = (q : RecordId) → lookup (same_id q) new.entries
     ≡ (if same_id id q then Some value else lookup (same_id q) old.entries)
+
+-- the names that have values, in the order in which they came
+abbrev pub names_of : {V : Type 0} → NamedValues V → List RecordId
+names_of a = map (λ e. e.0) a.entries
+
+-- the names with one that has this place among them, or with one more behind them
+abbrev pub names_placed : List RecordId → RecordId → Option ℕ → List RecordId
+names_placed names id (Some at) = names
+names_placed names id None = names ++ id ∷ []
+
+-- the names with this one, at the end where it is new
+abbrev pub with_name : List RecordId → RecordId → List RecordId
+with_name names id = names_placed names id (place_of id names)

@@ -5,7 +5,7 @@ ghost use Rattle.std.specs.Map.{lookup};
 ghost use Rattle.std.specs.Option.{option_copied};
 ghost use Rattle.mapdb_facts.specs.Names.{same_id};
 ghost use Rattle.mapdb_facts.specs.declared.names.RecordId.{RecordId};
-ghost use Rattle.mapdb_facts.specs.NamedValues.{IsInserted};
+ghost use Rattle.mapdb_facts.specs.NamedValues.{IsInserted, names_of, with_name};
 
 use crate::name_list::NameList;
 use crate::names::RecordId;
@@ -54,10 +54,11 @@ impl<V: Drop> ByName<V> {
         }
     }
 
-    /// Gives a name a value, in place of the one that it has. An error where memory ran out, and
-    /// then nothing has changed.
+    /// Gives a name a value, in place of the one that it has; a new name stands behind the others.
+    /// An error where memory ran out, and then nothing has changed.
     pub fn insert(&mut self, id: RecordId, value: V) -> Result<(), AllocError>
         ensures ok { OnOk result (IsInserted self.old id value self.new) }
+        ensures names { OnOk result (names_of self.new ≡ with_name (names_of self.old) id) }
         ensures err { OnErr result (self.new.entries ≡ self.old.entries) }
     {
         if let Some(at) = self.names.place(id) {

@@ -1,6 +1,6 @@
 -- What is found by a name among values beside their names.
-use Rattle.std.proofs.Common.{◌≡◌, ℕ, suc, ◌<◌, List, [], ◌∷◌, ◌++◌, length, set, refl, ap, sym, ◌∙◌, Bool, true, false, cond, inl, inr, arith}
-use Rattle.std.specs.Prelude.{Option, None, Some, option_map, slice_get}
+use Rattle.std.proofs.Common.{◌≡◌, ℕ, zero, suc, ◌<◌, List, [], ◌∷◌, ◌++◌, length, set, refl, ap, sym, ◌∙◌, Bool, true, false, cond, inl, inr, arith}
+use Rattle.std.specs.Prelude.{Option, None, Some, map, option_map, slice_get}
 use Rattle.std.specs.List.{zip}
 use Rattle.std.specs.Map.{lookup}
 use Rattle.std.proofs.lemmas.Bool.{cases_Bool, cond-false, cond-true, false_from_ne_true, false≢true}
@@ -131,3 +131,16 @@ given_at (name ∷ names) (other ∷ values) id at value e within q = elim (case
       ∙ ap (λ o. cond (same_id q name) (Some other) o) (given_at names values id found.0 value found.1 (omega (arith, within, found.2)) q)
       ∙ either_first (same_id q name) (same_id id q) (Some other) (Some value) (lookup (same_id q) (zip names values)) (not_both id name q apart)
 ]
+
+-- ---- the names
+
+pub names_zip : {V : Type 0} (names : List RecordId) (values : List V) → length names ≡ length values → map (λ e. e.0) (zip names values) ≡ names
+names_zip [] values same = refl
+names_zip (name ∷ names) [] same = absurd (omega (arith, same))
+names_zip (name ∷ names) (value ∷ values) same = ap (λ behind. name ∷ behind) (names_zip names values (omega (arith, same)))
+
+pub names_set : {V : Type 0} (names : List RecordId) (values : List V) (at : ℕ) (value : V) → map (λ e. e.0) (zip names (set values at value)) ≡ map (λ e. e.0) (zip names values)
+names_set [] values at value = refl
+names_set (name ∷ names) [] at value = refl
+names_set (name ∷ names) (other ∷ values) zero value = refl
+names_set (name ∷ names) (other ∷ values) (suc at) value = ap (λ behind. name ∷ behind) (names_set names values at value)
