@@ -37,13 +37,3 @@ pub does_not_fit :
 does_not_fit X Y f xs old short =
     let e : length (map f xs) ≡ length xs = length-map xs f in
     inr (refl, sym e, rw e short, refl)
-
--- The same of a list that is written as it is.
-pub text_fits :
-    (X : Type 0) (xs old new : List X) → length xs ≤ length old → new ≡ xs ++ drop (length xs) old
-    → FitsArray xs status.Done old new (length xs)
-text_fits X xs old new room is = inl (refl, refl, room, is)
-
-pub text_does_not_fit :
-    (X : Type 0) (xs old : List X) → length old < length xs → FitsArray xs status.NoRoom old old (length xs)
-text_does_not_fit X xs old short = inr (refl, refl, short, refl)

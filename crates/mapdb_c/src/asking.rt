@@ -14,6 +14,7 @@ ghost use Rattle.mapdb_c.specs.StatusNumbers.{Tells, status_number};
 ghost use Rattle.mapdb_c.specs.declared.statuses.Status.{Status};
 ghost use Rattle.mapdb_c.specs.declared.statuses.Status.TheVariants as status;
 
+use crate::filling::ToRaw;
 use crate::handles::Handle;
 use crate::raw_places::{RawSpace, number_within, space_of};
 use crate::statuses::Status;
@@ -34,14 +35,18 @@ pub struct Found {
     pub reserved: u32,
 }
 
-/// The frame and the rights as C has them.
-pub fn found_of(frame: u64, rights: Rights) -> Found
-    ensures { result ≡ found_of (frame, rights) }
-{
-    Found {
-        frame,
-        rights: rights.bits() as u32,
-        reserved: 0,
+impl ToRaw for (u64, Rights) {
+    type Raw = Found;
+
+    ghost raw = { found_of };
+
+    fn to_raw(&self) -> Found {
+        let (frame, rights) = *self;
+        Found {
+            frame,
+            rights: rights.bits() as u32,
+            reserved: 0,
+        }
     }
 }
 
@@ -50,8 +55,8 @@ fn served_at(replica: &Replica, space: Space, page: u64, found: &mut Found) -> S
     ensures { ServesAs (served replica.now.ops space page) result found.old found.new }
 {
     match replica.served(space, page) {
-        Some((frame, rights)) => {
-            *found = found_of(frame, rights);
+        Some(pair) => {
+            *found = pair.to_raw();
             Status::Done
         }
         None => Status::NotServed,

@@ -1,61 +1,42 @@
 //! Lists that go into the caller's array.
 
 ghost use Rattle.std.specs.Prelude.{◌≡◌, ◌≤◌, ◌++◌, drop, length, map};
-ghost use Rattle.mapdb_fpage.specs.declared.right_sets.Rights.{Rights};
-ghost use Rattle.mapdb_c.specs.Asking.{found_of};
 ghost use Rattle.mapdb_c.specs.Filling.{FitsArray};
-ghost use Rattle.mapdb_c.specs.RawOperations.{written_operation};
 
-use crate::asking::{Found, found_of};
-use crate::operations::{RawOperation, written_operation};
 use crate::statuses::Status;
-use mapdb_facts::Op;
-use mapdb_fpage::Rights;
 
-/// Writes operations into an array that has room for them.
-fn write_operations(ops: &[Op], room: &mut [RawOperation])
-    requires { length ops.now ≤ length room.old }
-    ensures { room.new ≡ map written_operation ops.now ++ drop (length ops.now) room.old }
+/// What C has in a form of its own.
+pub trait ToRaw {
+    /// The form that C has.
+    type Raw: Copy;
+
+    /// The value in that form.
+    ghost raw: { Self → Self.Raw };
+
+    /// The value as C has it.
+    fn to_raw(&self) -> Self::Raw
+        ensures { result ≡ raw self.now };
+}
+
+/// Writes a list into an array that has room for it.
+fn write<T: ToRaw>(list: &[T], room: &mut [T::Raw])
+    requires { length list.now ≤ length room.old }
+    ensures { room.new ≡ map T.raw list.now ++ drop (length list.now) room.old }
 {
-    for (place, op) in ops.iter().enumerate() {
-        room[place] = written_operation(op);
+    for (place, value) in list.iter().enumerate() {
+        room[place] = value.to_raw();
     }
 }
 
-/// Writes operations into the caller's array where it has room for all of them, and tells how many
-/// they are.
+/// Writes a list into the caller's array where it has room for all of it, and tells how long it is.
 #[tactic(auto, using(crate::proofs::Fitting::fits, crate::proofs::Fitting::does_not_fit))]
-pub fn fill_operations(ops: &[Op], room: &mut [RawOperation], count: &mut u64) -> Status
-    ensures { FitsArray (map written_operation ops.now) result room.old room.new count.new }
+pub fn fill<T: ToRaw>(list: &[T], room: &mut [T::Raw], count: &mut u64) -> Status
+    ensures { FitsArray (map T.raw list.now) result room.old room.new count.new }
 {
-    *count = ops.len() as u64;
-    if ops.len() > room.len() {
+    *count = list.len() as u64;
+    if list.len() > room.len() {
         return Status::NoRoom;
     }
-    write_operations(ops, room);
-    Status::Done
-}
-
-/// Writes frames with their rights into an array that has room for them.
-fn write_found(pairs: &[(u64, Rights)], room: &mut [Found])
-    requires { length pairs.now ≤ length room.old }
-    ensures { room.new ≡ map found_of pairs.now ++ drop (length pairs.now) room.old }
-{
-    for (place, pair) in pairs.iter().enumerate() {
-        room[place] = found_of(pair.0, pair.1);
-    }
-}
-
-/// Writes frames with their rights into the caller's array where it has room for all of them, and
-/// tells how many they are.
-#[tactic(auto, using(crate::proofs::Fitting::fits, crate::proofs::Fitting::does_not_fit))]
-pub fn fill_found(pairs: &[(u64, Rights)], room: &mut [Found], count: &mut u64) -> Status
-    ensures { FitsArray (map found_of pairs.now) result room.old room.new count.new }
-{
-    *count = pairs.len() as u64;
-    if pairs.len() > room.len() {
-        return Status::NoRoom;
-    }
-    write_found(pairs, room);
+    write(list, room);
     Status::Done
 }

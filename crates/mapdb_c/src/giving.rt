@@ -16,7 +16,7 @@ ghost use Rattle.mapdb_c.specs.declared.statuses.Status.{Status};
 ghost use Rattle.mapdb_c.specs.declared.statuses.Status.TheVariants as status;
 
 use crate::asking::Found;
-use crate::filling::{fill_found, fill_operations};
+use crate::filling::fill;
 use crate::handles::Handle;
 use crate::operations::RawOperation;
 use crate::raw_places::{RawSpace, space_of};
@@ -48,7 +48,7 @@ fn give_at(
         result room.old room.new count.old count.new }
 {
     match replica.give(first, end) {
-        Ok(ops) => fill_operations(ops.as_slice(), room, count),
+        Ok(ops) => fill(ops.as_slice(), room, count),
         Err(fault) => give_status(fault),
     }
 }
@@ -66,7 +66,7 @@ fn give_own_at(
         result room.old room.new count.old count.new }
 {
     match replica.give_own(first, end) {
-        Ok(ops) => fill_operations(ops.as_slice(), room, count),
+        Ok(ops) => fill(ops.as_slice(), room, count),
         Err(fault) => give_status(fault),
     }
 }
@@ -84,7 +84,7 @@ fn rights_at(
         result room.old room.new count.old count.new }
 {
     match replica.rights(space, page) {
-        Ok(pairs) => fill_found(pairs.as_slice(), room, count),
+        Ok(pairs) => fill(pairs.as_slice(), room, count),
         Err(_) => Status::Memory,
     }
 }

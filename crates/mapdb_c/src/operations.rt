@@ -8,6 +8,7 @@ ghost use Rattle.mapdb_c.specs.RawOperations.{record_given, revocation_of, writt
 ghost use Rattle.mapdb_c.specs.RawOperations.{written_operation, written_record};
 ghost use Rattle.mapdb_c.specs.RawOperations.{written_revocation};
 
+use crate::filling::ToRaw;
 use crate::raw_places::{RawSpace, place_of, raw_space, rights_of, space_of};
 use crate::statuses::Status;
 use mapdb_facts::{Op, PROCESSOR_LIMIT, Record, RecordId, Revocation, Space};
@@ -184,15 +185,21 @@ fn written_end(space: Space) -> RawOperation
     }
 }
 
-/// The operation as C has it. Where its processors are below 64, as those of each well-formed
-/// operation are, it is read again as it was.
-pub fn written_operation(op: &Op) -> RawOperation
-    ensures written { result ≡ written_operation op.now }
-    ensures back { HasProcessors op.now → operation_of result ≡ Ok op.now }
-{
-    match op {
-        Op::Born(mapping) => written_record(mapping),
-        Op::Cut(cut) => written_revocation(cut),
-        Op::Closed(space) => written_end(*space),
+impl ToRaw for Op {
+    type Raw = RawOperation;
+
+    ghost raw = { written_operation };
+
+    /// The operation as C has it. Where its processors are below 64, as those of each well-formed
+    /// operation are, it is read again as it was.
+    fn to_raw(&self) -> RawOperation
+        ensures written { result ≡ written_operation self.now }
+        ensures back { HasProcessors self.now → operation_of result ≡ Ok self.now }
+    {
+        match self {
+            Op::Born(mapping) => written_record(mapping),
+            Op::Cut(cut) => written_revocation(cut),
+            Op::Closed(space) => written_end(*space),
+        }
     }
 }

@@ -1,16 +1,17 @@
 //! Snapshots of a copy: out into the caller's array, and in.
 
-ghost use Rattle.std.specs.Prelude.{◌≡◌, ◌≤◌, ◌++◌, drop, length};
+ghost use Rattle.std.specs.Prelude.{◌≡◌};
 ghost use Rattle.std.specs.declared.option.Option.TheVariants.{None, Some};
 ghost use Rattle.mapdb_replica.specs.Replica.{Log};
 ghost use Rattle.mapdb_snapshot.specs.Snapshot.{snapshot_text};
-ghost use Rattle.mapdb_c.specs.Filling.{Fills, FitsArray};
+ghost use Rattle.mapdb_c.specs.Filling.{Fills};
 ghost use Rattle.mapdb_c.specs.Loading.{LoadsAs, text_status};
 ghost use Rattle.mapdb_c.specs.StatusNumbers.{Tells, status_number};
 ghost use Rattle.mapdb_c.specs.Taking.{taken_with};
 ghost use Rattle.mapdb_c.specs.declared.statuses.Status.TheVariants as status;
 
 use crate::faults::place_status;
+use crate::filling::{ToRaw, fill};
 use crate::handles::Handle;
 use crate::statuses::Status;
 use crate::taking::{Taken, take_at, taken_with};
@@ -31,25 +32,15 @@ fn text_status(fault: SnapshotFault) -> Status
     }
 }
 
-/// Writes a text into an array that has room for it.
-fn write_text(text: &[u8], room: &mut [u8])
-    requires { length text.now ≤ length room.old }
-    ensures { room.new ≡ text.now ++ drop (length text.now) room.old }
-{
-    room[..text.len()].copy_from_slice(text);
-}
+impl ToRaw for u8 {
+    type Raw = u8;
 
-/// Writes a text into the caller's array where it has room for it, and tells how long it is.
-#[tactic(auto, using(crate::proofs::Fitting::text_fits, crate::proofs::Fitting::text_does_not_fit))]
-fn fill_text(text: &[u8], room: &mut [u8], count: &mut u64) -> Status
-    ensures { FitsArray text.now result room.old room.new count.new }
-{
-    *count = text.len() as u64;
-    if text.len() > room.len() {
-        return Status::NoRoom;
+    ghost raw = { λ byte. byte };
+
+    /// The byte of a text, which goes out as it is.
+    fn to_raw(&self) -> u8 {
+        *self
     }
-    write_text(text, room);
-    Status::Done
 }
 
 /// Writes the snapshot of a copy into the caller's array.
@@ -58,7 +49,7 @@ fn snapshot_at(alloc: Global, replica: &Replica, room: &mut [u8], count: &mut u6
     ensures { Fills (snapshot_text replica.now.ops) result room.old room.new count.old count.new }
 {
     match snapshot_text(alloc, replica) {
-        Ok(text) => fill_text(text.as_bytes(), room, count),
+        Ok(text) => fill(text.as_bytes(), room, count),
         Err(_) => Status::Memory,
     }
 }

@@ -1,14 +1,15 @@
 //! The translation table of a copy, into the caller's array.
 
-ghost use Rattle.std.specs.Prelude.{◌≡◌, ◌≤◌, ◌++◌, drop, length, map};
+ghost use Rattle.std.specs.Prelude.{◌≡◌, map};
 ghost use Rattle.std.specs.declared.option.Option.TheVariants.{None, Some};
 ghost use Rattle.mapdb_replica.specs.Replica.{Log};
 ghost use Rattle.mapdb_table.specs.Table.{table};
-ghost use Rattle.mapdb_c.specs.Filling.{Fills, FitsArray};
+ghost use Rattle.mapdb_c.specs.Filling.{Fills};
 ghost use Rattle.mapdb_c.specs.RawRows.{raw_row};
 ghost use Rattle.mapdb_c.specs.StatusNumbers.{Tells, status_number};
 ghost use Rattle.mapdb_c.specs.declared.statuses.Status.TheVariants as status;
 
+use crate::filling::{ToRaw, fill};
 use crate::handles::Handle;
 use crate::raw_places::{RawSpace, raw_space};
 use crate::statuses::Status;
@@ -35,42 +36,21 @@ pub struct RawRow {
     pub reserved: u32,
 }
 
-/// The row as C has it.
-fn row_of(row: &TableRow) -> RawRow
-    ensures { result ≡ raw_row row.now }
-{
-    RawRow {
-        space: raw_space(row.space),
-        page: row.page,
-        count: row.count,
-        frame: row.frame,
-        rights: row.rights.bits() as u32,
-        reserved: 0,
-    }
-}
+impl ToRaw for TableRow {
+    type Raw = RawRow;
 
-/// Writes rows into an array that has room for them.
-fn write_rows(rows: &[TableRow], room: &mut [RawRow])
-    requires { length rows.now ≤ length room.old }
-    ensures { room.new ≡ map raw_row rows.now ++ drop (length rows.now) room.old }
-{
-    for (place, row) in rows.iter().enumerate() {
-        room[place] = row_of(row);
-    }
-}
+    ghost raw = { raw_row };
 
-/// Writes rows into the caller's array where it has room for all of them, and tells how many they
-/// are.
-#[tactic(auto, using(crate::proofs::Fitting::fits, crate::proofs::Fitting::does_not_fit))]
-fn fill_rows(rows: &[TableRow], room: &mut [RawRow], count: &mut u64) -> Status
-    ensures { FitsArray (map raw_row rows.now) result room.old room.new count.new }
-{
-    *count = rows.len() as u64;
-    if rows.len() > room.len() {
-        return Status::NoRoom;
+    fn to_raw(&self) -> RawRow {
+        RawRow {
+            space: raw_space(self.space),
+            page: self.page,
+            count: self.count,
+            frame: self.frame,
+            rights: self.rights.bits() as u32,
+            reserved: 0,
+        }
     }
-    write_rows(rows, room);
-    Status::Done
 }
 
 /// Writes the table of a copy into the caller's array.
@@ -80,7 +60,7 @@ fn table_at(alloc: Global, replica: &Replica, room: &mut [RawRow], count: &mut u
         result room.old room.new count.old count.new }
 {
     match build_plain(alloc, replica) {
-        Ok(rows) => fill_rows(rows.as_slice(), room, count),
+        Ok(rows) => fill(rows.as_slice(), room, count),
         Err(_) => Status::Memory,
     }
 }
