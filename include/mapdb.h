@@ -368,8 +368,9 @@ MAPDB_CALL uint32_t mapdb_end(mapdb_copy *copy, mapdb_space space, mapdb_issued 
 
 /*
  * Takes a batch of operations that other copies issued, in any order and however often. What is new
- * stands behind what was held. But for the last of these, a batch is refused as a whole, with
- * nothing changed, for the first that holds:
+ * stands behind what was held; it is never among the copy's own operations, also where its
+ * processor issued it. But for the last of these, a batch is refused as a whole, with nothing
+ * changed, for the first that holds:
  *   MAPDB_NO_COPY: *taken is not written.
  *   MAPDB_MEMORY, with taken->place 0: to read the batch. It may come in place of any below, but
  *     not where there is no operation, or the first one says none.

@@ -16,7 +16,7 @@ NAMED = """
 MOST_REFUSALS = 1000000
 
 FAULTS_OF_THREADS = {
-    "allocation": (b"run fault thread\n", b"run fault link\n"),
+    "allocation": (b"run fault thread\n",),
     "thread": (b"run fault thread\n",),
 }
 

@@ -53,6 +53,8 @@ CHANGES = [
      IN_THREADS, where(is_run_fault, errors=b"run fault node\n")),
     ("a fault of threads with output", "one_thread, refused .*status=1, .*no more",
      IN_THREADS, longer(is_run_fault)),
+    ("memory that ran out in threads, told of a link", "one_thread, refused .*run fault link",
+     IN_THREADS, where(is_refused, status=1, output=b"", errors=b"run fault link\n")),
     ("a thread that is refused, told of a link", "one_thread, refused .*run fault link",
      THREAD, where(is_run_fault, errors=b"run fault link\n")),
     ("a thread that is refused, with another status", "one_thread, refused .*status=3",

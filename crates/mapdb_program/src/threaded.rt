@@ -41,6 +41,17 @@ impl From<AllocError> for ThreadsFault {
     }
 }
 
+impl From<RunFault> for ThreadsFault {
+    ghost use Rattle.std.specs.Prelude.{◌≡◌};
+    ghost use Rattle.mapdb_program.specs.declared.threaded.ThreadsFault.TheVariants.{Run};
+
+    ghost from_gives = { λ why fault. fault ≡ Run why };
+
+    fn from(why: RunFault) -> ThreadsFault {
+        ThreadsFault::Run(why)
+    }
+}
+
 /// What is told of a processor.
 fn processor_text(alloc: Global, part: &Part) -> Result<String, AllocError>
     ensures { IfOk result (λ text. string_bytes text ≡ processor_text part.now) }
@@ -172,8 +183,6 @@ pub fn run_threads<T: Threads + Wait + Sync, R: Source, W: Sink>(
         }
         Err(fault) => return Err(ThreadsFault::Script(fault)),
     };
-    match mapdb_exchange::run(rt, alloc, scripts, capacity, &Open) {
-        Ok(report) => write_report(alloc, report.parts.as_slice(), writer),
-        Err(why) => Err(ThreadsFault::Run(why)),
-    }
+    let report = mapdb_exchange::run(rt, alloc, scripts, capacity, &Open)?;
+    write_report(alloc, report.parts.as_slice(), writer)
 }

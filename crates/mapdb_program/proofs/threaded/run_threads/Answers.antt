@@ -30,25 +30,26 @@ returns-in_err-write_fault-in-Err-Line-clause-told g c =
       rw (p.1, p.2) (fault_told c.in_err-write_fault-in-Err-Line.field-0.0 read.0 wrote.0 c.in-Err-Line.number c.in-Err-Line.fault c.args.capacity over line.0 wrote.2, line.1),
     )
 
-pub returns-in-Ok-run-clause-told : goal.returns-in-Ok-run-clause-told
-returns-in-Ok-run-clause-told g c =
+pub returns-clause-told : goal.returns-clause-told
+returns-clause-told g c =
     let read = c.in-Ok.ensures.told in
     let wrote = c.write_report.ensures.told in
-    let few = subst (λ (n : ℕ). IsCount n c.args.capacity) (sym (length-map _ _)) c.in-Ok-run.ensures.count in
+    let few = subst (λ (n : ℕ). IsCount n c.args.capacity) (sym (length-map _ _)) c.in_ok-report.ensures.count in
     let written = subst (λ (parts : List Part). IsTextWritten c.write_report.result (report_text parts) wrote.0) c.as_slice.ensures.value wrote.2 in (
       read.0,
       wrote.0,
       read.1,
       wrote.1,
-      (report_told c.write_report.result read.0 wrote.0 _ c.in-Ok-run.report.parts.items c.args.capacity _ read.2.0.0 read.2.0.1 few c.in-Ok-run.ensures.parts c.in-Ok-run.ensures.same written, read.2.1),
+      (report_told c.write_report.result read.0 wrote.0 _ c.in_ok-report.report.parts.items c.args.capacity _ read.2.0.0 read.2.0.1 few c.in_ok-report.ensures.parts c.in_ok-report.ensures.same written, read.2.1),
     )
 
-pub returns-in-Err-run-clause-told : goal.returns-in-Err-run-clause-told
-returns-in-Err-run-clause-told g c =
+pub returns-in_err-report-clause-told : goal.returns-in_err-report-clause-told
+returns-in_err-report-clause-told g c =
+    let p = err_from_is_err_and c.from_residual-in_err-report.result c.from_residual-in_err-report.ensures.1 in
     let read = c.in-Ok.ensures.told in
-    let why = c.in-Err-run.why in
-    let exactly = subst (λ (n : ℕ). why ≡ BadCount ↔ (IsCount n c.args.capacity → ⊥)) (sym (length-map _ _)) c.in-Err-run.ensures.bad in
-    (read.0, [], read.1, appends-none _, ((read.2.0.1, (_, read.2.0.0, exactly), refl), read.2.1))
+    let why = c.in_err-report.field-0.0 in
+    let exactly = subst (λ (n : ℕ). why ≡ BadCount ↔ (IsCount n c.args.capacity → ⊥)) (sym (length-map _ _)) c.in_err-report.ensures.bad in
+    rw (p.1, p.2) (read.0, [], read.1, appends-none _, ((read.2.0.1, (_, read.2.0.0, exactly), refl), read.2.1))
 
 pub returns-in-Err-Line-clause-told : goal.returns-in-Err-Line-clause-told
 returns-in-Err-Line-clause-told c = search rules
