@@ -8,3 +8,4 @@ pub mod ServedAlone
 pub mod ServedLaws
 pub mod ServedPages
 pub mod SkippedPages
+pub mod SteadyParts

@@ -4,7 +4,7 @@ use Rattle.std.specs.Prelude.{Some, None}
 use Rattle.mapdb_fpage.specs.Bounds.{page_limit}
 use Rattle.mapdb_facts.specs.Adding.{same_rights}
 use Rattle.mapdb_replica.specs.Pairs.{Pair}
-use Rattle.mapdb_replica.specs.declared.running.SteadyPages.{SteadyPages}
+use Rattle.mapdb_rights.specs.declared.index.served_pages.SteadyPages.{SteadyPages}
 
 -- the frame that lies so far on, with the same rights
 abbrev pub pair_on : ℕ → Option Pair → Option Pair
@@ -27,6 +27,10 @@ pub record AreSteady (served_at : ℕ → Option Pair) (pages : SteadyPages) : T
   pub limit : pages.end ≤ page_limit
   pub same : (count : ℕ) → pages.page + count < pages.end
       → served_at (pages.page + count) ≡ pair_on count (served_at pages.page)
+
+-- such pages from this one on
+abbrev pub IsSteadyPart : (ℕ → Option Pair) → ℕ → SteadyPages → Type 0
+IsSteadyPart served_at page pages = (pages.page ≡ page) × AreSteady served_at pages
 
 -- the end of the pages, from one on, over which that goes on: as many as there are one behind the
 -- other

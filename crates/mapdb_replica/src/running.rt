@@ -6,28 +6,8 @@ ghost use Rattle.mapdb_replica.specs.Running.{continues};
 use crate::replicas::Replica;
 use mapdb_facts::Space;
 use mapdb_fpage::{PAGE_LIMIT, Rights};
-use mapdb_rights::{Shown, show_until};
-
-/// Pages of a space, from one on, over which what they are served from goes on: nothing at any of
-/// them, or frames that rise by one with each page, with equal rights.
-#[derive(Clone, Copy, Debug, PartialEq, Eq)]
-pub struct SteadyPages {
-    /// The first of the pages.
-    pub page: u64,
-    /// What that one is served from: the frame and the rights.
-    pub served: Option<(u64, Rights)>,
-    /// One past the last of the pages. It may go on so behind them too.
-    pub end: u64,
-}
-
-/// Where a run of pages ends, and what comes behind it.
-#[derive(Clone, Copy, Debug, PartialEq, Eq)]
-pub struct ServedRun {
-    /// One past the last page of the run.
-    pub end: u64,
-    /// The first pages behind it; None at the end of the space.
-    pub next: Option<SteadyPages>,
-}
+use mapdb_rights::{SteadyPages, show_until};
+use std::alloc::AllocError;
 
 /// Whether the frame and the rights still go on so far behind the first ones.
 fn run_goes_on(first: (u64, Rights), count: u64, later: (u64, Rights)) -> bool
@@ -36,8 +16,9 @@ fn run_goes_on(first: (u64, Rights), count: u64, later: (u64, Rights)) -> bool
     later.0 >= first.0 && later.0 - first.0 == count && later.1 == first.1
 }
 
-/// Whether what a page is served from still belongs to what begins so far before it.
-fn continues(first: Option<(u64, Rights)>, count: u64, later: Option<(u64, Rights)>) -> bool
+/// Whether what a page is served from still belongs to what begins so many pages before it: none,
+/// or the frame that lies as far on, with the same rights.
+pub fn continues(first: Option<(u64, Rights)>, count: u64, later: Option<(u64, Rights)>) -> bool
     ensures { result ≡ continues first count later }
 {
     match (first, later) {
@@ -48,18 +29,21 @@ fn continues(first: Option<(u64, Rights)>, count: u64, later: Option<(u64, Right
 }
 
 impl Replica {
-    ghost use Rattle.std.specs.Prelude.{◌≡◌, ◌≤◌, ◌<◌, true, IfNone, IfSome};
+    ghost use Rattle.std.specs.Prelude.{◌≡◌, ◌≤◌, ◌<◌, true, IfOk, IfSome};
     ghost use Rattle.mapdb_facts.specs.State.{state_of};
     ghost use Rattle.mapdb_facts.specs.WellFormed.{all_formed};
     ghost use Rattle.mapdb_rights.specs.Live.{ShowUntil};
+    ghost use Rattle.mapdb_fpage.specs.Bounds.{page_limit};
     ghost use Rattle.mapdb_rights.specs.Served.{IsServed};
-    ghost use Rattle.mapdb_replica.specs.Running.{AreSteady, IsRunEnd};
+    ghost use Rattle.mapdb_rights.specs.ShownSpaces.{AreParts, IsShownAt};
+    ghost use Rattle.mapdb_replica.specs.Running.{AreSteady, IsRunEnd, IsSteadyPart};
     ghost use Rattle.mapdb_replica.specs.Served.{served};
 
     /// What a page of a space is served from, and how far all records of the space go on, as the
     /// index tells it. None where the index is absent.
-    fn shown_at(&self, space: Space, page: u64) -> Option<Shown>
+    fn shown_at(&self, space: Space, page: u64) -> Option<SteadyPages>
         requires { page < PAGE_LIMIT }
+        ensures page { IfSome result (λ shown. shown.page ≡ page) }
         ensures served { IfSome result (λ shown.
             IsServed (state_of self.now.ops) space page shown.served) }
         ensures above { IfSome result (λ shown. page < shown.end) }
@@ -91,11 +75,7 @@ impl Replica {
         ensures steady { AreSteady (served self.now.ops space) result }
     {
         match self.shown_at(space, page) {
-            Some(shown) => SteadyPages {
-                page,
-                served: shown.served,
-                end: shown.end,
-            },
+            Some(shown) => shown,
             None => SteadyPages {
                 page,
                 served: self.served_by_all(space, page),
@@ -104,27 +84,42 @@ impl Replica {
         }
     }
 
-    /// The run that begins with these pages: how far what they are served from goes on. It takes no
-    /// memory.
-    pub fn run_from(&self, space: Space, first: SteadyPages) -> ServedRun
-        requires { AreSteady (served self.now.ops space) first }
-        ensures end { IsRunEnd (served self.now.ops space) first.page result.end }
-        ensures next { IfSome result.next (λ next. (next.page ≡ result.end)
-            × AreSteady (served self.now.ops space) next) }
-        ensures over { IfNone result.next (result.end ≡ PAGE_LIMIT) }
+    /// What all pages of a space are served from, as the index tells it. None where the index is
+    /// absent. An error where memory ran out.
+    fn all_shown(&self, space: Space) -> Result<Option<Vec<SteadyPages>>, AllocError>
+        ensures shown { IfOk result (λ list. IfSome list (λ parts.
+            AreParts (IsShownAt (state_of self.now.ops) space) 0 page_limit parts.items)) }
+        ensures formed { all_formed self.now.ops ≡ true }
     {
-        let mut end = first.end;
-        'pages: while end < PAGE_LIMIT {
-            let next = self.steady_at(space, end);
-            if !continues(first.served, end - first.page, next.served) {
-                return ServedRun {
-                    end,
-                    next: Some(next),
-                };
-            }
-            end = next.end;
+        self.index.shown_pages(&self.facts, space)
+    }
+
+    /// What all pages of a space are served from, found by one question after the other.
+    fn steady_by_all(&self, space: Space) -> Result<Vec<SteadyPages>, AllocError>
+        ensures { IfOk result (λ parts.
+            AreParts (IsSteadyPart (served self.now.ops space)) 0 page_limit parts.items) }
+    {
+        let mut parts = Vec::new(self.alloc);
+        let mut page = 0;
+        'pages: while page < PAGE_LIMIT {
+            let next = self.steady_at(space, page);
+            parts.push(next)?;
+            page = next.end;
         }
-        ServedRun { end, next: None }
+        Ok(parts)
+    }
+
+    /// What the pages of a space are served from, from its first page to its last: pages, one
+    /// behind the other, over each of which that goes on. They are found in one walk over the
+    /// places of the space. The only error is that memory ran out.
+    pub fn steady_pages(&self, space: Space) -> Result<Vec<SteadyPages>, AllocError>
+        ensures { IfOk result (λ parts.
+            AreParts (IsSteadyPart (served self.now.ops space)) 0 page_limit parts.items) }
+    {
+        match self.all_shown(space)? {
+            Some(parts) => Ok(parts),
+            None => self.steady_by_all(space),
+        }
     }
 
     /// One past the last page up to which what a page of a space is served from goes on from this
@@ -134,6 +129,15 @@ impl Replica {
         requires { page < PAGE_LIMIT }
         ensures { IsRunEnd (served self.now.ops space) page result }
     {
-        self.run_from(space, self.steady_at(space, page)).end
+        let first = self.steady_at(space, page);
+        let mut end = first.end;
+        'pages: while end < PAGE_LIMIT {
+            let next = self.steady_at(space, end);
+            if !continues(first.served, end - page, next.served) {
+                return end;
+            }
+            end = next.end;
+        }
+        end
     }
 }

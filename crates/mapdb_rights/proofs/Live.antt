@@ -2,6 +2,8 @@ pub mod EmptyRights
 pub mod FirstRecords
 pub mod FirstWalks
 pub mod FrameRights
+pub mod HeldRights
+pub mod HeldWalks
 pub mod LiveLists
 pub mod LiveOrders
 pub mod LiveRecords
@@ -9,4 +11,5 @@ pub mod PagePairs
 pub mod PassedPlaces
 pub mod ServedPages
 pub mod ShownNames
+pub mod ShownParts
 pub mod ShownPlaces

@@ -1,4 +1,5 @@
 pub mod PlaceNames
+pub mod PlaceWalks
 pub mod SharedPlaces
 pub mod Sweeps
 pub mod Unlisted

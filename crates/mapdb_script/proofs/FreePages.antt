@@ -8,7 +8,7 @@ use Rattle.mapdb_fpage.specs.declared.items.Transfer.{Transfer}
 use Rattle.mapdb_fpage.specs.declared.right_sets.Rights.{Rights}
 use Rattle.mapdb_replica.specs.Pairs.{Pair}
 use Rattle.mapdb_replica.specs.Running.{AreSteady, pair_on}
-use Rattle.mapdb_replica.specs.declared.running.SteadyPages.{SteadyPages}
+use Rattle.mapdb_rights.specs.declared.index.served_pages.SteadyPages.{SteadyPages}
 use Rattle.mapdb_script.specs.Standing.{sent_page, shares}
 
 -- what goes on shares what the first shares

@@ -1,5 +1,5 @@
 -- The runs of a table are as long as can be.
-use Rattle.std.proofs.Common.{◌≡◌, ℕ, zero, suc, ◌+◌, ◌-◌, true, false, refl, sym, ap, subst, ◌∙◌, List, [], ◌∷◌, ◌++◌, arith}
+use Rattle.std.proofs.Common.{◌≡◌, ℕ, zero, suc, ◌+◌, ◌-◌, true, false, sym, subst, ◌∙◌, List, [], ◌∷◌, ◌++◌, arith}
 use Rattle.std.specs.Prelude.{◌==◌, ◌&&◌, Option, None, Some}
 use Rattle.std.specs.List.{AllByRecursion}
 use Rattle.std.proofs.lemmas.Bool.{and_from, and_parts, cond_both, eq-eqb, eqb-true, false≢true}
@@ -9,7 +9,7 @@ use Rattle.mapdb_fpage.specs.declared.right_sets.Rights.{Rights}
 use Rattle.mapdb_facts.specs.Adding.{same_rights}
 use Rattle.mapdb_facts.specs.Exact.{exact_rights}
 use Rattle.mapdb_facts.specs.Names.{is_space_before}
-use Rattle.mapdb_facts.specs.Records.{AllAfter, IsAscending, records_of}
+use Rattle.mapdb_facts.specs.Records.{IsAscending, records_of}
 use Rattle.mapdb_facts.specs.Spaces.{numbered}
 use Rattle.mapdb_facts.specs.declared.names.Space.{Space}
 use Rattle.mapdb_facts.specs.declared.operations.Op.{Op}

@@ -1,37 +1,55 @@
 -- The rows that are left, from run to run.
-use Rattle.std.proofs.Common.{◌≡◌, ℕ, ◌+◌, ◌-◌, ◌<◌, ◌≤◌, List, [], ◌∷◌, false, refl, sym, ap, subst, ◌∙◌, arith}
-use Rattle.std.specs.Prelude.{Option, None, Some, IfNone, IfSome}
+use Rattle.std.proofs.Common.{◌≡◌, ℕ, ◌+◌, ◌-◌, ◌<◌, ◌≤◌, List, [], ◌∷◌, ◌++◌, append-nil, drop_of_length-le, false, sym, ap, subst, ◌∙◌, arith, drop, get_or, length}
+use Rattle.std.specs.Prelude.{Option, None, Some}
 use Rattle.mapdb_fpage.specs.Bounds.{page_limit}
 use Rattle.mapdb_facts.specs.declared.names.Space.{Space}
 use Rattle.mapdb_replica.specs.Pairs.{Pair}
-use Rattle.mapdb_replica.specs.Running.{AreSteady, IsRunEnd, continues, pair_on}
-use Rattle.mapdb_replica.specs.declared.running.SteadyPages.{SteadyPages}
+use Rattle.mapdb_replica.specs.Running.{AreSteady, IsRunEnd, IsSteadyPart, continues, pair_on}
+use Rattle.mapdb_rights.specs.ShownSpaces.{AreParts}
+use Rattle.mapdb_rights.specs.declared.index.served_pages.SteadyPages.{SteadyPages}
 use Rattle.mapdb_table.specs.Table.{row_of, rows_behind}
 use Rattle.mapdb_table.specs.declared.rows.TableRow.{TableRow}
+use Rattle.mapdb_table.proofs.PartRuns.{split_at}
 use Rattle.mapdb_table.proofs.RowLists.{behind-all, behind-row, behind-skip, none-over}
 
--- how many pages there are from these on
-abbrev pub pages_left : Option SteadyPages → ℕ
-pages_left None = 0
-pages_left (Some pages) = page_limit - pages.page
+-- where the first of these pages begins, or the end of the space
+abbrev pub begins : List SteadyPages → ℕ
+begins [] = page_limit
+begins (pages ∷ rest) = pages.page
+
+pub begins_at : (f : ℕ → Option Pair) (from : ℕ) (parts : List SteadyPages) → AreParts (IsSteadyPart f) from page_limit parts → begins parts ≡ from
+begins_at f from [] h = sym h
+begins_at f from (pages ∷ rest) h = h.0.0
+
+-- the parts from an index on begin with one, a run begins with it, and the parts behind the run begin at its end
+pub record NextRun (f : ℕ → Option Pair) (parts : List SteadyPages) (place : ℕ) (first : SteadyPages) (end behind : ℕ) : Type 0 where
+  pub here : begins (drop place parts) ≡ first.page
+  pub steady : AreSteady f first
+  pub run : IsRunEnd f first.page end
+  pub next : begins (drop behind parts) ≡ end
+  pub left : AreParts (IsSteadyPart f) (begins (drop behind parts)) page_limit (drop behind parts)
+
+pub next_run : (f : ℕ → Option Pair) (parts : List SteadyPages) (place : ℕ) (d : SteadyPages) (end behind : ℕ) → place < length parts
+    → ((page : ℕ) → AreParts (IsSteadyPart f) page page_limit (drop place parts) → IsRunEnd f page end)
+    → ((page : ℕ) → AreParts (IsSteadyPart f) page page_limit (drop place parts) → AreParts (IsSteadyPart f) end page_limit (drop behind parts))
+    → AreParts (IsSteadyPart f) (begins (drop place parts)) page_limit (drop place parts) → NextRun f parts place (get_or parts place d) end behind
+next_run f parts place d end behind inside run rest h =
+    let first = get_or parts place d in
+    let split : drop place parts ≡ first ∷ drop (place + 1) parts = split_at parts place d inside in
+    let begun : begins (drop place parts) ≡ first.page = ap begins split in
+    let parted : AreParts (IsSteadyPart f) first.page page_limit (first ∷ drop (place + 1) parts) =
+    subst (λ (l : List SteadyPages). AreParts (IsSteadyPart f) first.page page_limit l) split (subst (λ n. AreParts (IsSteadyPart f) n page_limit (drop place parts)) begun h) in
+    let behind_it : AreParts (IsSteadyPart f) end page_limit (drop behind parts) = rest (begins (drop place parts)) h in
+    let next : begins (drop behind parts) ≡ end = begins_at f end (drop behind parts) behind_it in
+    record {
+      here = begun;
+      steady = parted.0.1;
+      run = subst (λ n. IsRunEnd f n end) begun (run (begins (drop place parts)) h);
+      next = next;
+      left = subst (λ n. AreParts (IsSteadyPart f) n page_limit (drop behind parts)) (sym next) behind_it;
+    }
 
 module _ (f : ℕ → Option Pair) (space : Space) where
-  -- the rows from these pages on
-  abbrev pub rows_left : Option SteadyPages → List TableRow
-  rows_left None = []
-  rows_left (Some pages) = rows_behind f space pages.page
-
-  -- behind a run come the rows from its end on
-  pub left_behind : (end : ℕ) (next : Option SteadyPages) → end ≤ page_limit → IfSome next (λ n. (n.page ≡ end) × AreSteady f n) → IfNone next (end ≡ page_limit)
-      → rows_left next ≡ rows_behind f space end
-  left_behind end None limit some none = sym (behind-all f space end (omega (arith, none)))
-  left_behind end (Some n) limit some none = ap (rows_behind f space) some.0
-
-  -- what comes behind it goes on steadily
-  pub steady_behind : (end : ℕ) (next : Option SteadyPages) → IfSome next (λ n. (n.page ≡ end) × AreSteady f n) → IfSome next (AreSteady f)
-  steady_behind end None some = tt
-  steady_behind end (Some n) some = some.1
-
   module _ (first : SteadyPages) (end : ℕ) (steady : AreSteady f first) (run : IsRunEnd f first.page end) where
     -- a run of pages that are not served has no row
     pub no_row : first.served ≡ None → rows_behind f space first.page ≡ rows_behind f space end
@@ -50,3 +68,12 @@ module _ (f : ℕ → Option Pair) (space : Space) where
       where
         up_to : first.page + (end - first.page) ≡ end
         up_to = let above : first.page < end = run.above in omega arith
+
+  -- where no parts are left, no rows are
+  pub rows_over : (parts : List SteadyPages) (place : ℕ) (rows : List TableRow) → length parts ≤ place → rows ++ rows_behind f space (begins (drop place parts)) ≡ rows_behind f space 0
+      → rows ≡ rows_behind f space 0
+  rows_over parts place rows over h =
+      sym (append-nil rows)
+      ∙ ap (λ (more : List TableRow). rows ++ more)
+      (sym (behind-all f space page_limit (omega arith)) ∙ ap (λ (l : List SteadyPages). rows_behind f space (begins l)) (sym (drop_of_length-le parts over)))
+      ∙ h

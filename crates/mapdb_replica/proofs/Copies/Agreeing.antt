@@ -4,7 +4,7 @@ use Rattle.std.specs.Prelude.{◌↔◌, IsTrue, not}
 use Rattle.std.proofs.lemmas.Bool.{and_from, and_parts, not-true}
 use Rattle.mapdb_facts.specs.Adding.{is_new}
 use Rattle.mapdb_facts.specs.Records.{records_of}
-use Rattle.mapdb_facts.specs.State.{Atom, Covers, Gives, Has, HasAtom, IsSound, SameAtoms, State, state_of}
+use Rattle.mapdb_facts.specs.State.{Atom, Covers, Gives, Has, HasAtom, IsSound, State, state_of}
 use Rattle.mapdb_facts.specs.declared.operations.Op.{Op}
 use Rattle.mapdb_facts.proofs.RecordLemmas.Ascending.{records_of-state}
 use Rattle.mapdb_facts.proofs.Maps.Atoms.{atom_held, atom_kept, state_of_same_atoms}

@@ -1,7 +1,6 @@
 -- What a copy keeps when an operation is added.
 use Rattle.std.proofs.Common.{◌≡◌, ℕ, suc, ◌+◌, ◌<◌, ◌≤◌, Bool, true, false, Ok, Err, Result, refl, sym, ap, subst, ◌∙◌, inl, inr, List, [], ◌∷◌, ◌++◌, length, length-append, arith}
-use Rattle.std.specs.Prelude.{◌⊎◌, Err, IfOk, None, Option, OnOk, OnErr, Some, is_err, is_ok, if◌then◌else◌}
-use Rattle.std.proofs.lemmas.Bool.{true≢false}
+use Rattle.std.specs.Prelude.{◌⊎◌, Err, IfOk, None, Option, OnOk, OnErr, Some, is_ok, if◌then◌else◌}
 use Rattle.mapdb_facts.specs.Adding.{added, added_if, clash_of, is_new, other_record, same_record}
 use Rattle.mapdb_facts.specs.Facts.{records_of_facts, state_of_facts}
 use Rattle.mapdb_facts.specs.Names.{is_before, same_id}

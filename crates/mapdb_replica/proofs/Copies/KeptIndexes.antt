@@ -1,16 +1,15 @@
 -- The index keeps up with the facts, or is absent.
-use Rattle.std.proofs.Common.{◌≡◌, ◌∙◌, false, true, Some, Result, Ok, Err, inl, inr, subst, sym}
-use Rattle.std.specs.Prelude.{None, Option, OnErr, OnOk}
+use Rattle.std.proofs.Common.{◌≡◌, ◌∙◌, false, true, Some, Result, Ok, inl, inr, subst, sym}
+use Rattle.std.specs.Prelude.{None, Option}
 use Rattle.std.proofs.lemmas.Bool.{cases_Bool, false≢true}
 use Rattle.mapdb_facts.specs.Looking.{Holds}
 use Rattle.mapdb_facts.specs.Merging.{IsNamed}
 use Rattle.mapdb_facts.specs.Names.{is_root}
-use Rattle.mapdb_facts.specs.State.{State, join, said}
+use Rattle.mapdb_facts.specs.State.{State}
 use Rattle.mapdb_facts.specs.declared.names.RecordId.{RecordId}
-use Rattle.mapdb_facts.specs.declared.operations.Op.{Op}
 use Rattle.mapdb_facts.specs.declared.operations.Record.{Record}
 use Rattle.mapdb_rights.specs.Following.{AreListed}
-use Rattle.mapdb_rights.specs.Index.{KeepsUp, KeptUpBefore, StandsFor}
+use Rattle.mapdb_rights.specs.Index.{KeepsUp}
 use Rattle.mapdb_rights.specs.declared.index.rights_index.RightsIndex.{RightsIndex}
 use Rattle.mapdb_replica.proofs.Copies.OpForms.{HasForm, source_is}
 use Rattle.mapdb_replica.proofs.Maps.HolderNames.{not_root}

@@ -1,7 +1,7 @@
 -- Lists of frames with their rights.
 use Rattle.std.proofs.Common.{◌≡◌, ℕ, zero, suc, ◌+◌, ◌<◌, ◌≤◌, Bool, true, false, refl, sym, ap, ◌∙◌, List, [], ◌∷◌, ◌++◌, append_assoc, drop, get_or, length, length-drop, set, take, arith}
-use Rattle.std.specs.Prelude.{◌==◌, None, filter, insert, map, nat_lt, if◌then◌else◌}
-use Rattle.std.proofs.lemmas.Bool.{cond-false, cond-true, eq-eqb, lt-ltb}
+use Rattle.std.specs.Prelude.{◌==◌, None, filter, map, nat_lt, if◌then◌else◌}
+use Rattle.std.proofs.lemmas.Bool.{cond-false, cond-true, eq-eqb}
 use Rattle.std.proofs.lemmas.Bool.Decides.{nat_tests}
 use Rattle.std.proofs.lemmas.List.{drop-set, drop_more, take-append-drop, take-set, take_more}
 use Rattle.mapdb_fpage.specs.Place.{whole}

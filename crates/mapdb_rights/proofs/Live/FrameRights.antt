@@ -70,7 +70,7 @@ module _ (S : State) (changes : PageChanges) (space : Space) (page shift : ℕ) 
   none_found right has = absurd (none_in right has)
 
   module _ (rights : AreRights S (cached_in changes)) where
-    some_rights : (id : RecordId) (right : Right) → includes (seen id).rights right ≡ true → is_empty (rights_at S id page) ≡ false
+    pub some_rights : (id : RecordId) (right : Right) → includes (seen id).rights right ≡ true → is_empty (rights_at S id page) ≡ false
     some_rights id right has = ap is_empty (sym (rights id page)) ∙ some_here (seen id).rights right has
 
     -- the root, where it is of the space

@@ -1,12 +1,13 @@
 //! All rights of one frame that the records of a space have at a page, found in one walk over the
-//! places that hold it.
+//! places that hold it, or from a list of these.
 
-ghost use Rattle.std.specs.Prelude.{◌≡◌};
+ghost use Rattle.std.specs.Prelude.{◌≡◌, ◌+◌, true};
 ghost use Rattle.mapdb_facts.specs.Facts.{state_of_facts};
 ghost use Rattle.mapdb_facts.specs.Names.{root};
 ghost use Rattle.mapdb_lists.specs.Changes.{seen_in};
-ghost use Rattle.mapdb_lists.specs.Listing.{owner_places};
-ghost use Rattle.mapdb_lists.specs.OwnPlaces.{own_list};
+ghost use Rattle.mapdb_lists.specs.Listing.{is_listed, listed_for, owner_places};
+ghost use Rattle.mapdb_lists.specs.OwnPlaces.{own_list, own_meets, stands};
+ghost use Rattle.mapdb_lists.specs.declared.own_places.OwnPlace.{OwnPlace};
 ghost use Rattle.mapdb_lists.specs.declared.places.Owner.TheVariants as owners;
 ghost use Rattle.mapdb_rights.specs.First.{AreAsFar, IsAllAsFar, IsJoined, joined_as_far};
 ghost use Rattle.mapdb_rights.specs.Following.{Shows};
@@ -14,7 +15,7 @@ ghost use Rattle.mapdb_rights.specs.Live.{IsLive};
 
 use mapdb_facts::{Facts, RecordId, Space};
 use mapdb_fpage::Rights;
-use mapdb_lists::{AllChanges, OwnPlaces, Owner, Places, Sweep, seen_at};
+use mapdb_lists::{AllChanges, OwnPlace, OwnPlaces, Owner, Places, Sweep, seen_at};
 
 /// Rights, with those of the record of this name at the page, where its frame is so far from it.
 fn with_record(known: Rights, changes: &AllChanges, page: u64, shift: u64, id: RecordId) -> Rights
@@ -94,4 +95,30 @@ pub(crate) fn frame_rights(
         Some(own) => rights_among(own, changes, live, facts, space, page, shift),
         None => root_rights(changes, live, facts, space, page, shift),
     }
+}
+
+/// All rights that the records of the space have at the page of the frame that is so far from it,
+/// where each place of the space that holds the page is one of these.
+pub(crate) fn held_frame_rights(
+    held: &[OwnPlace],
+    changes: &AllChanges,
+    live: &Places,
+    facts: &Facts,
+    space: Space,
+    page: u64,
+    shift: u64,
+) -> Rights
+    requires stands { Shows changes.now live.now (state_of_facts facts.now) }
+    requires listed { (p : OwnPlace) → stands held.now p ≡ true
+        → is_listed live.now (listed_for (owners.Space space) p) ≡ true }
+    requires all { (p : OwnPlace) → stands (owner_places live.now (owners.Space space)) p ≡ true
+        → own_meets p page (page + 1) ≡ true → stands held.now p ≡ true }
+    ensures { IsAllAsFar (state_of_facts facts.now) changes.now.own.entries space page shift
+        result }
+{
+    let mut known = root_rights(changes, live, facts, space, page, shift);
+    for place in held {
+        known = with_record(known, changes, page, shift, place.id);
+    }
+    known
 }

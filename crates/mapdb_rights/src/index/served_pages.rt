@@ -7,14 +7,17 @@ use super::shown_pages::first_until;
 use mapdb_facts::{Facts, Space};
 use mapdb_fpage::Rights;
 
-/// What a page of a space is served from, and how far that goes on steadily.
+/// Pages of a space, from one on, over which each record of the space has equal rights, and where
+/// it has some, a frame that rises by one with each page. So what they are served from goes on:
+/// nothing at any of them, or frames that rise by one with each page, with equal rights.
 #[derive(Clone, Copy, Debug, PartialEq, Eq)]
-pub struct Shown {
-    /// The frame that the page is served from, with all rights that the space's records have of it
+pub struct SteadyPages {
+    /// The first of the pages.
+    pub page: u64,
+    /// The frame that this one is served from, with all rights that the space's records have of it
     /// there; None where no record of the space has a right there.
     pub served: Option<(u64, Rights)>,
-    /// The end of pages, from this one on, over which each record of the space has equal rights,
-    /// and where it has some, a frame that rises by one with each page.
+    /// One past the last of the pages. All may go on so behind them too.
     pub end: u64,
 }
 
@@ -28,7 +31,7 @@ impl RightsIndex {
     ghost use Rattle.mapdb_rights.specs.Served.{IsServed};
 
     /// The frame that the page of the space is served from, whose first record was found.
-    fn served_by(
+    pub(crate) fn served_by(
         &self,
         facts: &Facts,
         space: Space,
@@ -73,11 +76,12 @@ impl RightsIndex {
     /// far all records of the space go on from there: each has equal rights at the pages before the
     /// end, and where it has some, a frame that rises by one with each page. None where the index
     /// is absent. It takes no memory.
-    pub fn shown_at(&self, facts: &Facts, space: Space, page: u64) -> Option<Shown>
+    pub fn shown_at(&self, facts: &Facts, space: Space, page: u64) -> Option<SteadyPages>
         requires page { page < page_limit }
         requires stands { KeepsUp self.now (state_of_facts facts.now) }
         ensures absent { self.now.absent ≡ true → result ≡ None }
         ensures there { self.now.absent ≡ false → IsSome result }
+        ensures page { IfSome result (λ shown. shown.page ≡ page) }
         ensures served { IfSome result (λ shown.
             IsServed (state_of_facts facts.now) space page shown.served) }
         ensures above { IfSome result (λ shown. page < shown.end) }
@@ -89,7 +93,8 @@ impl RightsIndex {
             return None;
         }
         let found = first_until(&self.changes, &self.live, facts, space, page);
-        Some(Shown {
+        Some(SteadyPages {
+            page,
             served: self.served_by(facts, space, page, found.first),
             end: found.end,
         })

@@ -6,7 +6,8 @@ ghost use Rattle.mapdb_facts.specs.Facts.{state_of_facts};
 ghost use Rattle.mapdb_facts.specs.Names.{is_first_space, root};
 ghost use Rattle.mapdb_lists.specs.Changes.{cached_in, seen_in};
 ghost use Rattle.mapdb_lists.specs.Listing.{is_listed, listed_for, owner_places};
-ghost use Rattle.mapdb_lists.specs.OwnPlaces.{own_list, own_meets};
+ghost use Rattle.mapdb_lists.specs.OwnPlaces.{own_list, own_meets, stands};
+ghost use Rattle.mapdb_lists.specs.declared.own_places.OwnPlace.{OwnPlace};
 ghost use Rattle.mapdb_lists.specs.declared.places.Owner.TheVariants as owners;
 ghost use Rattle.mapdb_rights.specs.Among.{is_shown};
 ghost use Rattle.mapdb_rights.specs.First.{IsFirstOfAll, first_where};
@@ -140,4 +141,38 @@ pub(crate) fn first_until(
             end: root_until(changes, space, page),
         },
     }
+}
+
+/// The first record of the space that has a right at the page, and the end of pages over which all
+/// go on, where these are the places of the space that meet the pages up to before an end.
+pub(crate) fn first_until_held(
+    held: &[OwnPlace],
+    until: u64,
+    changes: &AllChanges,
+    live: &Places,
+    facts: &Facts,
+    space: Space,
+    page: u64,
+) -> FirstUntil
+    requires above { page < until }
+    requires limit { until ≤ PAGE_LIMIT }
+    requires stands { Shows changes.now live.now (state_of_facts facts.now) }
+    requires listed { (p : OwnPlace) → stands held.now p ≡ true
+        → is_listed live.now (listed_for (owners.Space space) p) ≡ true }
+    requires all { (p : OwnPlace) → stands (owner_places live.now (owners.Space space)) p ≡ true
+        → own_meets p page until ≡ true → stands held.now p ≡ true }
+    ensures first { IsFirstOfAll (state_of_facts facts.now) changes.now.own.entries space page
+        result.first }
+    ensures above { page < result.end }
+    ensures limit { result.end ≤ PAGE_LIMIT }
+    ensures shown { ShowUntil (state_of_facts facts.now) space page result.end }
+{
+    let mut first = root_first(changes, live, facts, space, page);
+    let mut end = root_until(changes, space, page).min(until);
+    for place in held {
+        let with = with_place(first, changes, live, facts, space, page, *place);
+        first = with.first;
+        end = with.end.min(end);
+    }
+    FirstUntil { first, end }
 }

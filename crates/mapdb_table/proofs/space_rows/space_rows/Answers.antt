@@ -1,48 +1,53 @@
-use Rattle.std.proofs.Common.{◌≡◌, ◌++◌, ◌∷◌, [], ◌-◌, List, sym, ap, subst, ◌∙◌, append_assoc}
-use Rattle.std.specs.Prelude.{IfSome, Option}
+use Rattle.std.proofs.Common.{◌∙◌, ◌++◌, ◌-◌, ◌∷◌, [], List, ap, append_assoc, drop, get_or, sym}
+use Rattle.std.specs.Prelude.{None}
 use Rattle.mapdb_replica.specs.Pairs.{Pair}
-use Rattle.mapdb_replica.specs.Running.{AreSteady}
 use Rattle.mapdb_replica.specs.Served.{served}
-use Rattle.mapdb_replica.specs.declared.running.SteadyPages.{SteadyPages}
-use Rattle.mapdb_table.specs.Table.{row_of}
+use Rattle.mapdb_rights.specs.declared.index.served_pages.SteadyPages.{SteadyPages}
+use Rattle.mapdb_table.specs.Table.{row_of, rows_behind, space_rows}
 use Rattle.mapdb_table.specs.declared.rows.TableRow.{TableRow}
-use Rattle.mapdb_table.proofs.RowsLeft.{left_behind, no_row, one_row, rows_left, steady_behind}
+use Rattle.mapdb_table.proofs.RowsLeft.{NextRun, begins, next_run, no_row, one_row, rows_over}
 use Rattle.mapdb_table.proofs.space_rows.space_rows.Goals as goal
 
 pub runs-preserved-in_ok-push : goal.runs-preserved-in_ok-push
 runs-preserved-in_ok-push c =
     let f = served c.args.copy.now.ops c.args.space in
-    let first = c.in-Some.first in
-    let run = c.run_from-run.ensures in
+    let parts = c.as_slice-parts.result.now in
+    let none : SteadyPages = record { page = 0; served = None; end = 0 } in
+    let first = get_or parts c.runs.place none in
     let end = c.run_from-run.result.end in
-    let next = c.run_from-run.result.next in
-    let pair : Pair = (c.in-Some-served.frame, c.in-Some-served.rights) in
+    let behind = c.run_from-run.result.behind in
+    let pair : Pair = (c.in-Some.frame, c.in-Some.rights) in
     let row : TableRow = row_of c.args.space first.page (end - first.page) pair in
-    let steady : AreSteady f first = subst (λ (n : Option SteadyPages). IfSome n (AreSteady f)) c.in-Some.is c.runs.invariant.steady in
+    let run : NextRun f parts c.runs.place first end behind =
+    next_run f parts c.runs.place none end behind c.runs-test.true (c.run_from-run.ensures.run f) (c.run_from-run.ensures.rest f) c.runs.invariant.parts in
     record {
       rows =
-          ap (λ (rows : List TableRow). rows ++ rows_left f c.args.space next) c.in_ok-push.ensures.items
-          ∙ append_assoc c.runs.rows.items (row ∷ []) (rows_left f c.args.space next)
+          ap (λ (rows : List TableRow). rows ++ rows_behind f c.args.space (begins (drop behind parts))) c.in_ok-push.ensures.items
+          ∙ append_assoc c.runs.rows.items (row ∷ []) (rows_behind f c.args.space (begins (drop behind parts)))
           ∙ ap (λ (rows : List TableRow). c.runs.rows.items ++ rows)
-          (ap (λ (rows : List TableRow). row ∷ rows) (left_behind f c.args.space end next run.end.limit run.next run.over) ∙ sym (one_row f c.args.space first end steady run.end pair c.in-Some-served.is))
-          ∙ ap (λ (n : Option SteadyPages). c.runs.rows.items ++ rows_left f c.args.space n) (sym c.in-Some.is)
+          (ap (λ n. row ∷ rows_behind f c.args.space n) run.next ∙ sym (one_row f c.args.space first end run.steady run.run pair c.in-Some.is) ∙ ap (rows_behind f c.args.space) (sym run.here))
           ∙ c.runs.invariant.rows;
-      steady = steady_behind f c.args.space end next run.next;
+      parts = run.left;
     }
 
 pub runs-preserved : goal.runs-preserved
 runs-preserved c =
     let f = served c.args.copy.now.ops c.args.space in
-    let first = c.in-Some.first in
-    let run = c.run_from-run.ensures in
+    let parts = c.as_slice-parts.result.now in
+    let none : SteadyPages = record { page = 0; served = None; end = 0 } in
+    let first = get_or parts c.runs.place none in
     let end = c.run_from-run.result.end in
-    let next = c.run_from-run.result.next in
-    let steady : AreSteady f first = subst (λ (n : Option SteadyPages). IfSome n (AreSteady f)) c.in-Some.is c.runs.invariant.steady in
+    let behind = c.run_from-run.result.behind in
+    let run : NextRun f parts c.runs.place first end behind =
+    next_run f parts c.runs.place none end behind c.runs-test.true (c.run_from-run.ensures.run f) (c.run_from-run.ensures.rest f) c.runs.invariant.parts in
     record {
       rows =
           ap (λ (rows : List TableRow). c.runs.rows.items ++ rows)
-          (left_behind f c.args.space end next run.end.limit run.next run.over ∙ sym (no_row f c.args.space first end steady run.end c.in_default-served.is))
-          ∙ ap (λ (n : Option SteadyPages). c.runs.rows.items ++ rows_left f c.args.space n) (sym c.in-Some.is)
+          (ap (rows_behind f c.args.space) run.next ∙ sym (no_row f c.args.space first end run.steady run.run c.in_default.is) ∙ ap (rows_behind f c.args.space) (sym run.here))
           ∙ c.runs.invariant.rows;
-      steady = steady_behind f c.args.space end next run.next;
+      parts = run.left;
     }
+
+pub returns : goal.returns
+unfolding space_rows
+returns c = rows_over (served c.args.copy.now.ops c.args.space) c.args.space c.as_slice-parts.result.now c.runs.place c.runs.rows.items c.runs-test.false c.runs.invariant.rows

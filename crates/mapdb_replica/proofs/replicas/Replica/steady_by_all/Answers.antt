@@ -1,0 +1,17 @@
+use Rattle.std.proofs.Common.{List, subst, sym}
+use Rattle.mapdb_rights.specs.ShownSpaces.{AreParts}
+use Rattle.mapdb_rights.specs.declared.index.served_pages.SteadyPages.{SteadyPages}
+use Rattle.mapdb_rights.proofs.Live.ShownParts.{parts_on}
+use Rattle.mapdb_replica.specs.Running.{IsSteadyPart}
+use Rattle.mapdb_replica.specs.Served.{served}
+use Rattle.mapdb_replica.proofs.replicas.Replica.steady_by_all.Goals as goal
+
+pub pages-preserved : goal.pages-preserved
+pages-preserved c =
+    let f = served c.args.self.now.ops c.args.space in
+    record {
+      limit = c.steady_at-next.ensures.steady.limit;
+      steady =
+          subst (λ (l : List SteadyPages). AreParts (IsSteadyPart f) 0 c.steady_at-next.result.end l) (sym c.in_ok-push.ensures.items)
+          (parts_on (IsSteadyPart f) 0 c.pages.page c.pages.parts.items c.steady_at-next.result (c.steady_at-next.ensures.page, c.steady_at-next.ensures.steady) c.pages.invariant.steady);
+    }

@@ -1,0 +1,81 @@
+-- How far steady pages, one behind the other, belong to one run.
+use Rattle.std.proofs.Common.{◌≡◌, ℕ, ◌+◌, ◌-◌, ◌<◌, ◌≤◌, List, [], ◌∷◌, true, false, sym, ap, subst, ◌∙◌, arith, drop, drop-cons, get_or, length, suc}
+use Rattle.std.specs.Prelude.{Option}
+use Rattle.mapdb_fpage.specs.Bounds.{page_limit}
+use Rattle.mapdb_replica.specs.Pairs.{Pair}
+use Rattle.mapdb_replica.specs.Running.{IsRunEnd, IsSteadyPart, continues, pair_on}
+use Rattle.mapdb_replica.proofs.Pages.RunningPages.{Runs, longer}
+use Rattle.mapdb_rights.specs.ShownSpaces.{AreParts}
+use Rattle.mapdb_rights.specs.declared.index.served_pages.SteadyPages.{SteadyPages}
+
+-- the parts behind an index are the first of them and those behind it
+pub split_at : (parts : List SteadyPages) (n : ℕ) (d : SteadyPages) → n < length parts → drop n parts ≡ get_or parts n d ∷ drop (n + 1) parts
+split_at parts n d inside = let on : n + 1 ≡ suc n = omega arith in drop-cons parts n d inside ∙ ap (λ m. get_or parts n d ∷ drop m parts) (sym on)
+
+module _ (f : ℕ → Option Pair) where
+  -- the pages up to an end belong to the run that begins at a page with the first pages, and those that are left begin there
+  pub record RunsTo (page : ℕ) (first : SteadyPages) (end : ℕ) (rest : List SteadyPages) : Type 0 where
+    pub begins : first.page ≡ page
+    pub here : first.served ≡ f page
+    pub above : page < end
+    pub limit : end ≤ page_limit
+    pub same : Runs f page end
+    pub left : AreParts (IsSteadyPart f) end page_limit rest
+
+  pub run_begins : (page : ℕ) (first : SteadyPages) (rest : List SteadyPages) → AreParts (IsSteadyPart f) page page_limit (first ∷ rest) → RunsTo page first first.end rest
+  run_begins page first rest h = record {
+    begins = h.0.0;
+    here = h.0.1.here ∙ ap f h.0.0;
+    above = subst (λ n. n < first.end) h.0.0 h.0.1.above;
+    limit = h.0.1.limit;
+    same = subst (λ n. Runs f n first.end) h.0.0 h.0.1.same;
+    left = h.1;
+  }
+
+  -- the next pages go on in it
+  pub run_on : (page : ℕ) (first : SteadyPages) (end : ℕ) (next : SteadyPages) (rest : List SteadyPages) → continues first.served (end - first.page) next.served ≡ true
+      → RunsTo page first end (next ∷ rest) → RunsTo page first next.end rest
+  run_on page first end next rest on h =
+      let steady = h.left.0.1 in
+      let at : next.page ≡ end = h.left.0.0 in
+      let above : page < end = h.above in
+      let further : next.page < next.end = steady.above in
+      record {
+        begins = h.begins;
+        here = h.here;
+        above = omega (arith, above, further, at);
+        limit = steady.limit;
+        same = longer f page end next.end above h.same (asked page first end next h.begins h.here (steady.here ∙ ap f at) ∙ on)
+            (subst (λ n. (count : ℕ) → n + count < next.end → f (n + count) ≡ pair_on count (f n)) at steady.same);
+        left = h.left.1;
+      }
+    where
+      asked : (page : ℕ) (first : SteadyPages) (end : ℕ) (next : SteadyPages) → first.page ≡ page → first.served ≡ f page → next.served ≡ f end
+          → continues (f page) (end - page) (f end) ≡ continues first.served (end - first.page) next.served
+      asked page first end next begins here there =
+          ap (λ (o : Option Pair). continues o (end - page) (f end)) (sym here)
+          ∙ ap (λ (o : Option Pair). continues first.served (end - page) o) (sym there)
+          ∙ ap (λ n. continues first.served (end - n) next.served) (sym begins)
+
+  -- they do not
+  pub run_over : (page : ℕ) (first : SteadyPages) (end : ℕ) (next : SteadyPages) (rest : List SteadyPages) → continues first.served (end - first.page) next.served ≡ false
+      → RunsTo page first end (next ∷ rest) → IsRunEnd f page end
+  run_over page first end next rest off h = record {
+    above = h.above;
+    limit = h.limit;
+    same = h.same;
+    other = λ below.
+        ap (λ (o : Option Pair). continues o (end - page) (f end)) (sym h.here)
+        ∙ ap (λ (o : Option Pair). continues first.served (end - page) o) (sym (h.left.0.1.here ∙ ap f h.left.0.0))
+        ∙ ap (λ n. continues first.served (end - n) next.served) (sym h.begins)
+        ∙ off;
+  }
+
+  -- there are none
+  pub run_last : (page : ℕ) (first : SteadyPages) (end : ℕ) → RunsTo page first end [] → IsRunEnd f page end
+  run_last page first end h = record {
+    above = h.above;
+    limit = h.limit;
+    same = h.same;
+    other = λ below. absurd (omega (arith, h.left, below));
+  }
