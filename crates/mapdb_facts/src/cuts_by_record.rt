@@ -84,13 +84,14 @@ fn merge_all(cuts: &mut ByName<Runs>, other: &ByName<Runs>) -> Result<(), AllocE
     Ok(())
 }
 
-/// Takes bits of the pages of a region from the record of a name. An error where memory ran out,
-/// and then nothing has changed.
+/// Takes bits of the pages of a region from the record of a name, where so many records are held. An
+/// error where memory ran out, and then nothing has changed.
 fn merge_region(
     cuts: &mut ByName<Runs>,
     alloc: Global,
     id: RecordId,
     region: Region,
+    records: usize,
 ) -> Result<(), AllocError>
     ensures ok { OnOk result (IsUnion has_cut cuts.old.entries ((id, starts_of region) ∷ [])
         cuts.new.entries) }
@@ -102,7 +103,7 @@ fn merge_region(
             .map_err(MergeFault::refusal);
     }
     let runs = Runs::of_part(alloc, region)?;
-    cuts.insert(id, runs)
+    cuts.insert_beside(id, runs, records)
 }
 
 impl CutsByRecord {
@@ -124,14 +125,19 @@ impl CutsByRecord {
         self.by_name.get(id)
     }
 
-    /// Takes bits of the pages of a region from the record of a name. An error where memory ran
-    /// out, and then nothing has changed.
-    pub(crate) fn add(&mut self, id: RecordId, region: Region) -> Result<(), AllocError>
+    /// Takes bits of the pages of a region from the record of a name, where so many records are
+    /// held. An error where memory ran out, and then nothing has changed.
+    pub(crate) fn add(
+        &mut self,
+        id: RecordId,
+        region: Region,
+        records: usize,
+    ) -> Result<(), AllocError>
         ensures ok { OnOk result (IsUnion has_cut self.old ((id, starts_of region) ∷ [])
             self.new) }
         ensures err { OnErr result (self.new ≡ self.old) }
     {
-        merge_region(&mut self.by_name, self.alloc, id, region)
+        merge_region(&mut self.by_name, self.alloc, id, region, records)
     }
 
     /// Whether these take all that the other takes.

@@ -53,15 +53,17 @@ impl NameList {
         self.places.get(id)
     }
 
-    /// Adds a name at the end. An error where memory ran out, and then nothing has changed.
+    /// Adds a name at the end, where there are so many names elsewhere: where these are many, a name
+    /// with a great number is found as fast. An error where memory ran out, and then nothing has
+    /// changed.
     #[inline(always)]
-    pub fn add(&mut self, id: RecordId) -> Result<(), AllocError>
+    pub fn add(&mut self, id: RecordId, elsewhere: usize) -> Result<(), AllocError>
         requires { place_of id self.old ≡ None }
         ensures ok { OnOk result (self.new ≡ self.old ++ id ∷ []) }
         ensures err { OnErr result (self.new ≡ self.old) }
     {
         self.names.reserve(1)?;
-        self.places.put(id, self.names.len())?;
+        self.places.put(id, self.names.len(), elsewhere)?;
         self.names.push_reserved(id);
         Ok(())
     }

@@ -1,6 +1,6 @@
 //! Where names of records stand in a list of them: near ones by their number, far ones in a map.
 
-ghost use Rattle.std.specs.Prelude.{◌≡◌, ◌==◌, ◌+◌, ◌*◌, ◌<◌, ◌^◌, ℕ, None, Some, IfSome, OnOk};
+ghost use Rattle.std.specs.Prelude.{◌≡◌, ◌==◌, ◌+◌, ◌*◌, ◌<◌, ◌^◌, ℕ, None, Some, IfSome, OnOk, max};
 ghost use Rattle.std.specs.Prelude.{OnErr, if◌then◌else◌, slice_index, vec_len};
 ghost use Rattle.mapdb_facts.specs.Names.{same_id};
 ghost use Rattle.mapdb_facts.specs.declared.names.RecordId.{RecordId};
@@ -33,15 +33,16 @@ fn near_word(near: &[Vec<u32>], id: RecordId) -> u32
 }
 
 /// The word for a name at a place, where the name is near: its number lies not far beyond twice the
-/// names that came before it. So the list of each processor has at most [`NEAR_NUMBERS`] words more
-/// than twice the names.
+/// names that came before it, or that there are elsewhere. So the list of each processor has at
+/// most [`NEAR_NUMBERS`] words more than twice these names.
 #[inline(always)]
-fn word_for(id: RecordId, at: usize) -> Option<u32>
+fn word_for(id: RecordId, at: usize, elsewhere: usize) -> Option<u32>
     ensures word { IfSome result (λ word. word ≡ at + 1) }
     ensures number { IfSome result (λ _. id.number + 1 < 2 ^ 64) }
-    ensures near { IfSome result (λ _. id.number < 2 * at + NEAR_NUMBERS) }
+    ensures near { IfSome result (λ _. id.number < 2 * (max at elsewhere) + NEAR_NUMBERS) }
 {
-    let limit = (at as u64).saturating_mul(2).saturating_add(NEAR_NUMBERS);
+    let names = at.max(elsewhere) as u64;
+    let limit = names.saturating_mul(2).saturating_add(NEAR_NUMBERS);
     if id.processor < PROCESSOR_LIMIT && id.number < limit && at < u32::MAX as usize {
         return Some(at as u32 + 1);
     }
@@ -133,15 +134,21 @@ impl NamePlaces {
         self.far.get(&id).copied()
     }
 
-    /// Gives a place to a name that has none. An error where memory ran out.
+    /// Gives a place to a name that has none, where there are so many names elsewhere. An error
+    /// where memory ran out.
     #[inline(always)]
-    pub(crate) fn put(&mut self, id: RecordId, at: usize) -> Result<(), AllocError>
+    pub(crate) fn put(
+        &mut self,
+        id: RecordId,
+        at: usize,
+        elsewhere: usize,
+    ) -> Result<(), AllocError>
         requires { place_in self.old id ≡ None }
         ensures ok { OnOk result ((q : RecordId) → place_in self.new q
             ≡ (if same_id id q then Some at else place_in self.old q)) }
         ensures err { OnErr result ((q : RecordId) → place_in self.new q ≡ place_in self.old q) }
     {
-        if let Some(word) = word_for(id, at) {
+        if let Some(word) = word_for(id, at, elsewhere) {
             return put_near(&mut self.near, self.alloc, id, word);
         }
         self.far.insert(id, at)?;

@@ -119,6 +119,11 @@ impl RecordsByName {
         self.by_name.get(id).copied()
     }
 
+    /// How many records are held.
+    pub(crate) fn len(&self) -> usize {
+        self.by_name.values.len()
+    }
+
     /// The least name above another, or of all, under which a record is held.
     pub(crate) fn next(&self, after: Option<RecordId>) -> Option<RecordId>
         ensures none { MatchOption result

@@ -6,7 +6,7 @@ use Rattle.std.specs.Map.{lookup}
 use Rattle.mapdb_facts.specs.Names.{same_id}
 use Rattle.mapdb_facts.specs.NamedValues.{names_of, names_placed, with_name}
 use Rattle.mapdb_facts.proofs.NameLemmas.NamedEntries.{given_added, given_at, names_set, names_zip, place_within}
-use Rattle.mapdb_facts.proofs.by_name.ByName.insert.Goals as goal
+use Rattle.mapdb_facts.proofs.by_name.ByName.insert_beside.Goals as goal
 
 pub index_mut-requires : goal.index_mut-requires
 index_mut-requires g c = omega (arith, place_within c.self.inside.names c.args.id c.in-Some.at (sym c.in-Some.ensures), c.self.invariant, c.self.inside.values.ok.0)
