@@ -84,8 +84,8 @@ fn merge_all(cuts: &mut ByName<Runs>, other: &ByName<Runs>) -> Result<(), AllocE
     Ok(())
 }
 
-/// Takes bits of the pages of a region from the record of a name, where so many records are held. An
-/// error where memory ran out, and then nothing has changed.
+/// Takes bits of the pages of a region from the record of a name, where so many records are held.
+/// An error where memory ran out, and then nothing has changed.
 fn merge_region(
     cuts: &mut ByName<Runs>,
     alloc: Global,

@@ -53,7 +53,7 @@ impl NameList {
         self.places.get(id)
     }
 
-    /// Adds a name at the end, where there are so many names elsewhere: where these are many, a name
+    /// Adds a name at the end, where there are so many names elsewhere: where these are many, one
     /// with a great number is found as fast. An error where memory ran out, and then nothing has
     /// changed.
     #[inline(always)]

@@ -16,8 +16,9 @@ fn run_goes_on(first: (u64, Rights), count: u64, later: (u64, Rights)) -> bool
     later.0 >= first.0 && later.0 - first.0 == count && later.1 == first.1
 }
 
-/// Whether what a page is served from still belongs to what begins so many pages before it: none,
-/// or the frame that lies as far on, with the same rights.
+/// Whether what a page is served from, a frame with its rights, goes on from what a page so many
+/// pages before it is served from: nothing at both, or the frame that lies as far on, with the same
+/// rights.
 pub fn continues(first: Option<(u64, Rights)>, count: u64, later: Option<(u64, Rights)>) -> bool
     ensures { result ≡ continues first count later }
 {
@@ -32,10 +33,10 @@ impl Replica {
     ghost use Rattle.std.specs.Prelude.{◌≡◌, ◌≤◌, ◌<◌, true, IfOk, IfSome};
     ghost use Rattle.mapdb_facts.specs.State.{state_of};
     ghost use Rattle.mapdb_facts.specs.WellFormed.{all_formed};
-    ghost use Rattle.mapdb_rights.specs.Live.{ShowUntil};
     ghost use Rattle.mapdb_fpage.specs.Bounds.{page_limit};
+    ghost use Rattle.mapdb_rights.specs.Live.{ShowUntil};
     ghost use Rattle.mapdb_rights.specs.Served.{IsServed};
-    ghost use Rattle.mapdb_rights.specs.ShownSpaces.{AreParts, IsShownAt};
+    ghost use Rattle.mapdb_rights.specs.ShownSpaces.{CoverPages, IsShownFrom};
     ghost use Rattle.mapdb_replica.specs.Running.{AreSteady, IsRunEnd, IsSteadyPart};
     ghost use Rattle.mapdb_replica.specs.Served.{served};
 
@@ -88,16 +89,17 @@ impl Replica {
     /// absent. An error where memory ran out.
     fn all_shown(&self, space: Space) -> Result<Option<Vec<SteadyPages>>, AllocError>
         ensures shown { IfOk result (λ list. IfSome list (λ parts.
-            AreParts (IsShownAt (state_of self.now.ops) space) 0 page_limit parts.items)) }
+            CoverPages (IsShownFrom (state_of self.now.ops) space) 0 page_limit parts.items)) }
         ensures formed { all_formed self.now.ops ≡ true }
     {
         self.index.shown_pages(&self.facts, space)
     }
 
-    /// What all pages of a space are served from, found by one question after the other.
+    /// What all pages of a space are served from, found by one question after the other. An error
+    /// where memory ran out.
     fn steady_by_all(&self, space: Space) -> Result<Vec<SteadyPages>, AllocError>
         ensures { IfOk result (λ parts.
-            AreParts (IsSteadyPart (served self.now.ops space)) 0 page_limit parts.items) }
+            CoverPages (IsSteadyPart (served self.now.ops space)) 0 page_limit parts.items) }
     {
         let mut parts = Vec::new(self.alloc);
         let mut page = 0;
@@ -109,12 +111,12 @@ impl Replica {
         Ok(parts)
     }
 
-    /// What the pages of a space are served from, from its first page to its last: pages, one
-    /// behind the other, over each of which that goes on. They are found in one walk over the
-    /// places of the space. The only error is that memory ran out.
+    /// What all pages of a space are served from: parts, one behind the other, from page 0 to the
+    /// last, over each of which that goes on (it may go on in the next part too). Pages and frames
+    /// are numbers: the byte address divided by 4,096. The only error is that memory ran out.
     pub fn steady_pages(&self, space: Space) -> Result<Vec<SteadyPages>, AllocError>
         ensures { IfOk result (λ parts.
-            AreParts (IsSteadyPart (served self.now.ops space)) 0 page_limit parts.items) }
+            CoverPages (IsSteadyPart (served self.now.ops space)) 0 page_limit parts.items) }
     {
         match self.all_shown(space)? {
             Some(parts) => Ok(parts),

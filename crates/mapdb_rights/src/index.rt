@@ -4,6 +4,7 @@
 mod building;
 mod children;
 mod first_records;
+mod first_until;
 mod following;
 mod frame_rights;
 mod idle_places;
@@ -21,7 +22,6 @@ mod runs;
 mod served_pages;
 mod settling;
 mod sharing;
-mod shown_pages;
 mod shown_spaces;
 mod stale;
 mod stepping;

@@ -5,7 +5,7 @@ use Rattle.mapdb_fpage.specs.Bounds.{page_limit}
 use Rattle.mapdb_replica.specs.Pairs.{Pair}
 use Rattle.mapdb_replica.specs.Running.{IsRunEnd, IsSteadyPart, continues, pair_on}
 use Rattle.mapdb_replica.proofs.Pages.RunningPages.{Runs, longer}
-use Rattle.mapdb_rights.specs.ShownSpaces.{AreParts}
+use Rattle.mapdb_rights.specs.ShownSpaces.{CoverPages}
 use Rattle.mapdb_rights.specs.declared.index.served_pages.SteadyPages.{SteadyPages}
 
 -- the parts behind an index are the first of them and those behind it
@@ -20,9 +20,9 @@ module _ (f : ℕ → Option Pair) where
     pub above : page < end
     pub limit : end ≤ page_limit
     pub same : Runs f page end
-    pub left : AreParts (IsSteadyPart f) end page_limit rest
+    pub left : CoverPages (IsSteadyPart f) end page_limit rest
 
-  pub run_begins : (page : ℕ) (first : SteadyPages) (rest : List SteadyPages) → AreParts (IsSteadyPart f) page page_limit (first ∷ rest) → RunsTo page first first.end rest
+  pub run_begins : (page : ℕ) (first : SteadyPages) (rest : List SteadyPages) → CoverPages (IsSteadyPart f) page page_limit (first ∷ rest) → RunsTo page first first.end rest
   run_begins page first rest h = record {
     begins = h.0.0;
     here = h.0.1.here ∙ ap f h.0.0;

@@ -5,7 +5,7 @@ use Rattle.mapdb_fpage.specs.Bounds.{page_limit}
 use Rattle.mapdb_facts.specs.declared.names.Space.{Space}
 use Rattle.mapdb_replica.specs.Pairs.{Pair}
 use Rattle.mapdb_replica.specs.Running.{AreSteady, IsRunEnd, IsSteadyPart, continues, pair_on}
-use Rattle.mapdb_rights.specs.ShownSpaces.{AreParts}
+use Rattle.mapdb_rights.specs.ShownSpaces.{CoverPages}
 use Rattle.mapdb_rights.specs.declared.index.served_pages.SteadyPages.{SteadyPages}
 use Rattle.mapdb_table.specs.Table.{row_of, rows_behind}
 use Rattle.mapdb_table.specs.declared.rows.TableRow.{TableRow}
@@ -17,7 +17,7 @@ abbrev pub begins : List SteadyPages → ℕ
 begins [] = page_limit
 begins (pages ∷ rest) = pages.page
 
-pub begins_at : (f : ℕ → Option Pair) (from : ℕ) (parts : List SteadyPages) → AreParts (IsSteadyPart f) from page_limit parts → begins parts ≡ from
+pub begins_at : (f : ℕ → Option Pair) (from : ℕ) (parts : List SteadyPages) → CoverPages (IsSteadyPart f) from page_limit parts → begins parts ≡ from
 begins_at f from [] h = sym h
 begins_at f from (pages ∷ rest) h = h.0.0
 
@@ -27,26 +27,26 @@ pub record NextRun (f : ℕ → Option Pair) (parts : List SteadyPages) (place :
   pub steady : AreSteady f first
   pub run : IsRunEnd f first.page end
   pub next : begins (drop behind parts) ≡ end
-  pub left : AreParts (IsSteadyPart f) (begins (drop behind parts)) page_limit (drop behind parts)
+  pub left : CoverPages (IsSteadyPart f) (begins (drop behind parts)) page_limit (drop behind parts)
 
 pub next_run : (f : ℕ → Option Pair) (parts : List SteadyPages) (place : ℕ) (d : SteadyPages) (end behind : ℕ) → place < length parts
-    → ((page : ℕ) → AreParts (IsSteadyPart f) page page_limit (drop place parts) → IsRunEnd f page end)
-    → ((page : ℕ) → AreParts (IsSteadyPart f) page page_limit (drop place parts) → AreParts (IsSteadyPart f) end page_limit (drop behind parts))
-    → AreParts (IsSteadyPart f) (begins (drop place parts)) page_limit (drop place parts) → NextRun f parts place (get_or parts place d) end behind
+    → ((page : ℕ) → CoverPages (IsSteadyPart f) page page_limit (drop place parts) → IsRunEnd f page end)
+    → ((page : ℕ) → CoverPages (IsSteadyPart f) page page_limit (drop place parts) → CoverPages (IsSteadyPart f) end page_limit (drop behind parts))
+    → CoverPages (IsSteadyPart f) (begins (drop place parts)) page_limit (drop place parts) → NextRun f parts place (get_or parts place d) end behind
 next_run f parts place d end behind inside run rest h =
     let first = get_or parts place d in
     let split : drop place parts ≡ first ∷ drop (place + 1) parts = split_at parts place d inside in
     let begun : begins (drop place parts) ≡ first.page = ap begins split in
-    let parted : AreParts (IsSteadyPart f) first.page page_limit (first ∷ drop (place + 1) parts) =
-    subst (λ (l : List SteadyPages). AreParts (IsSteadyPart f) first.page page_limit l) split (subst (λ n. AreParts (IsSteadyPart f) n page_limit (drop place parts)) begun h) in
-    let behind_it : AreParts (IsSteadyPart f) end page_limit (drop behind parts) = rest (begins (drop place parts)) h in
+    let parted : CoverPages (IsSteadyPart f) first.page page_limit (first ∷ drop (place + 1) parts) =
+    subst (λ (l : List SteadyPages). CoverPages (IsSteadyPart f) first.page page_limit l) split (subst (λ n. CoverPages (IsSteadyPart f) n page_limit (drop place parts)) begun h) in
+    let behind_it : CoverPages (IsSteadyPart f) end page_limit (drop behind parts) = rest (begins (drop place parts)) h in
     let next : begins (drop behind parts) ≡ end = begins_at f end (drop behind parts) behind_it in
     record {
       here = begun;
       steady = parted.0.1;
       run = subst (λ n. IsRunEnd f n end) begun (run (begins (drop place parts)) h);
       next = next;
-      left = subst (λ n. AreParts (IsSteadyPart f) n page_limit (drop behind parts)) (sym next) behind_it;
+      left = subst (λ n. CoverPages (IsSteadyPart f) n page_limit (drop behind parts)) (sym next) behind_it;
     }
 
 module _ (f : ℕ → Option Pair) (space : Space) where

@@ -9,7 +9,7 @@ use mapdb_fpage::PAGE_LIMIT;
 use mapdb_lists::{OwnPlace, OwnPlaces, Sweep};
 use std::alloc::{AllocError, Global};
 
-/// All places of the owner, as they come.
+/// All places of the owner, as they come. An error where memory ran out.
 fn gathered(alloc: Global, own: &OwnPlaces) -> Result<Vec<OwnPlace>, AllocError>
     requires { AreAligned (own_list own.now) }
     ensures { IfOk result (λ places. (p : OwnPlace)

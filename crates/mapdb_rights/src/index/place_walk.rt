@@ -11,8 +11,8 @@ use mapdb_fpage::{LEAST_ORDER, PAGE_LIMIT};
 use mapdb_lists::OwnPlace;
 use std::alloc::{AllocError, Global};
 
-/// Whether the place ends behind the page.
-fn lasts_beyond(place: &OwnPlace, page: u64) -> bool
+/// Whether a page of the place is this one, or lies behind it.
+fn reaches(place: &OwnPlace, page: u64) -> bool
     ensures { result ≡ nat_lt page (place.now.first + own_pages place.now) }
 {
     let order = u32::from(place.order.saturating_sub(LEAST_ORDER));
@@ -47,7 +47,7 @@ impl PlaceWalk {
         ensures { (places : List OwnPlace) → HasCome places page self.old
             → HasCome places page self.new }
     {
-        self.held.retain(|place| lasts_beyond(place, page));
+        self.held.retain(|place| reaches(place, page));
     }
 
     /// Takes the places that begin at the page or before it. An error where memory ran out.
@@ -64,7 +64,7 @@ impl PlaceWalk {
         Ok(())
     }
 
-    /// Goes on to a page that lies behind all that was come to. An error where memory ran out.
+    /// Goes on to the page that comes next. An error where memory ran out.
     pub(crate) fn go_to(&mut self, places: &[OwnPlace], page: u64) -> Result<(), AllocError>
         requires come { HasCome places.now page self.old }
         requires ordered { IsNonDecreasingBy (λ p. p.first) places.now }
@@ -77,7 +77,7 @@ impl PlaceWalk {
 
     /// Where the first place begins that the walk has not come to, or the end of the space.
     pub(crate) fn next_first(&self, places: &[OwnPlace], page: u64) -> u64
-        requires in_space { page < PAGE_LIMIT }
+        requires in_space { page < page_limit }
         requires behind { BeginBehind places.now page self.now }
         requires ordered { IsNonDecreasingBy (λ p. p.first) places.now }
         requires aligned { AreAligned places.now }
@@ -85,6 +85,8 @@ impl PlaceWalk {
         ensures limit { result ≤ page_limit }
         ensures least { (p : OwnPlace) → stands (drop self.now.begun places.now) p ≡ true
             → result ≤ p.first }
+        ensures begins { result < page_limit → (p : OwnPlace)
+            × (stands (drop self.now.begun places.now) p ≡ true) × (p.first ≡ result) }
     {
         if self.begun < places.len() {
             places[self.begun].first

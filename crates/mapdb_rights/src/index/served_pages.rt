@@ -1,15 +1,15 @@
 //! The frame that a page of a space is served from, and how far what the space shows goes on.
 
 use super::first_records::{First, first_live};
+use super::first_until::first_until;
 use super::frame_rights::frame_rights;
 use super::rights_index::RightsIndex;
-use super::shown_pages::first_until;
 use mapdb_facts::{Facts, Space};
 use mapdb_fpage::Rights;
 
-/// Pages of a space, from one on, over which each record of the space has equal rights, and where
-/// it has some, a frame that rises by one with each page. So what they are served from goes on:
-/// nothing at any of them, or frames that rise by one with each page, with equal rights.
+/// Pages of a space, from one on, over which what they are served from goes on: nothing at any of
+/// them, or frames that rise by one with each page, with equal rights. Pages and frames are
+/// numbers: the byte address divided by 4,096.
 #[derive(Clone, Copy, Debug, PartialEq, Eq)]
 pub struct SteadyPages {
     /// The first of the pages.
@@ -17,7 +17,7 @@ pub struct SteadyPages {
     /// The frame that this one is served from, with all rights that the space's records have of it
     /// there; None where no record of the space has a right there.
     pub served: Option<(u64, Rights)>,
-    /// One past the last of the pages. All may go on so behind them too.
+    /// One past the last of the pages. It may go on so behind them too.
     pub end: u64,
 }
 

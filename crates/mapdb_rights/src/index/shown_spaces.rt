@@ -8,12 +8,12 @@ ghost use Rattle.mapdb_lists.specs.declared.own_places.OwnPlace.{OwnPlace};
 ghost use Rattle.mapdb_lists.specs.declared.places.Owner.TheVariants as owners;
 
 use super::first_records::First;
+use super::first_until::first_until_held;
 use super::frame_rights::held_frame_rights;
 use super::ordered_places::places_in_order;
 use super::place_walk::PlaceWalk;
 use super::rights_index::RightsIndex;
 use super::served_pages::SteadyPages;
-use super::shown_pages::first_until_held;
 use mapdb_facts::{Facts, Space};
 use mapdb_fpage::{PAGE_LIMIT, Rights};
 use mapdb_lists::{OwnPlace, Owner, Places};
@@ -34,7 +34,7 @@ fn space_places(alloc: Global, live: &Places, space: Space) -> Result<Vec<OwnPla
 }
 
 impl RightsIndex {
-    ghost use Rattle.std.specs.Prelude.{◌≡◌, ◌+◌, ◌<◌, IfOk, IfSome, IsSome, None, false, true};
+    ghost use Rattle.std.specs.Prelude.{◌≡◌, ◌+◌, ◌<◌, IfOk, IfSome, IsSome, None, Ok, false, true};
     ghost use Rattle.std.specs.List.Sorted.{IsNonDecreasingBy};
     ghost use Rattle.mapdb_facts.specs.Facts.{state_of_facts};
     ghost use Rattle.mapdb_fpage.specs.Bounds.{page_limit};
@@ -46,10 +46,10 @@ impl RightsIndex {
     ghost use Rattle.mapdb_rights.specs.Index.{KeepsUp};
     ghost use Rattle.mapdb_rights.specs.PlaceWalks.{HasCome};
     ghost use Rattle.mapdb_rights.specs.Served.{IsServed};
-    ghost use Rattle.mapdb_rights.specs.ShownSpaces.{AreParts, IsShownAt};
+    ghost use Rattle.mapdb_rights.specs.ShownSpaces.{CoverPages, IsShownFrom};
 
-    /// The frame that the page of the space is served from, whose first record was found, and of
-    /// whose places each that holds the page is one of these.
+    /// The frame that the page of the space is served from, where its first record is known, and
+    /// each place of the space that holds the page is one of these.
     fn served_among(
         &self,
         held: &[OwnPlace],
@@ -80,8 +80,8 @@ impl RightsIndex {
         }
     }
 
-    /// What the page of the space shows, whose places with rights these are, by those that a walk
-    /// over them has come to. An error where memory ran out.
+    /// What a page of the space shows. The walk over the space's places goes on to it first. An
+    /// error where memory ran out.
     fn next_shown(
         &self,
         walk: &mut PlaceWalk,
@@ -98,7 +98,7 @@ impl RightsIndex {
         requires ordered { IsNonDecreasingBy (λ p. p.first) places.now }
         requires come { HasCome places.now page walk.old }
         ensures shown { IfOk result (λ shown.
-            IsShownAt (state_of_facts facts.now) space page shown) }
+            IsShownFrom (state_of_facts facts.now) space page shown) }
         ensures come { IfOk result (λ shown. HasCome places.now shown.end walk.new) }
     {
         walk.go_to(places, page)?;
@@ -114,18 +114,20 @@ impl RightsIndex {
     }
 
     /// What the space shows at its pages, from the first one to the last: parts, one behind the
-    /// other, with what the first page of each is served from and how far all records of the space
-    /// go on from there. None where the index is absent. An error where memory ran out.
+    /// other, with what the first page of each is served from and an end up to which all records of
+    /// the space go on from there: each has equal rights at the pages before it, and where it has
+    /// some, a frame that rises by one with each page. None where the index is absent. An error
+    /// where memory ran out.
     pub fn shown_pages(
         &self,
         facts: &Facts,
         space: Space,
     ) -> Result<Option<Vec<SteadyPages>>, AllocError>
         requires { KeepsUp self.now (state_of_facts facts.now) }
-        ensures absent { IfOk result (λ list. self.now.absent ≡ true → list ≡ None) }
+        ensures absent { self.now.absent ≡ true → result ≡ Ok None }
         ensures there { IfOk result (λ list. self.now.absent ≡ false → IsSome list) }
         ensures shown { IfOk result (λ list. IfSome list (λ parts.
-            AreParts (IsShownAt (state_of_facts facts.now) space) 0 page_limit parts.items)) }
+            CoverPages (IsShownFrom (state_of_facts facts.now) space) 0 page_limit parts.items)) }
     {
         if self.absent {
             return Ok(None);

@@ -3,7 +3,7 @@ use Rattle.std.specs.Prelude.{Option}
 use Rattle.mapdb_fpage.specs.Bounds.{page_limit}
 use Rattle.mapdb_replica.specs.Pairs.{Pair}
 use Rattle.mapdb_replica.specs.Running.{IsSteadyPart}
-use Rattle.mapdb_rights.specs.ShownSpaces.{AreParts}
+use Rattle.mapdb_rights.specs.ShownSpaces.{CoverPages}
 use Rattle.mapdb_table.proofs.PartRuns.{RunsTo}
 use Rattle.mapdb_table.proofs.served_runs.run_from.Given as goal
 
@@ -12,7 +12,7 @@ abbrev pub invariant-parts : goal.invariant-parts
 invariant-parts l = record {
   fewer : l.place < l.behind;
   within : l.behind ≤ length l.parts;
-  runs : (f : ℕ → Option Pair) (page : ℕ) → AreParts (IsSteadyPart f) page page_limit (drop l.place l.parts) → RunsTo f page l.first l.end (drop l.behind l.parts);
+  runs : (f : ℕ → Option Pair) (page : ℕ) → CoverPages (IsSteadyPart f) page page_limit (drop l.place l.parts) → RunsTo f page l.first l.end (drop l.behind l.parts);
 }
 
 abbrev pub decreases-parts : goal.decreases-parts

@@ -5,7 +5,7 @@ use Rattle.mapdb_replica.proofs.replicas.Replica.steady_at.Goals as goal
 pub returns-in-Some-clause-steady : goal.returns-in-Some-clause-steady
 returns-in-Some-clause-steady c =
     (shown_steady c.args.self.now.ops c.args.space c.shown_at.ensures.formed c.args.page c.in-Some.shown (record {
-      at = c.in-Some.ensures.page;
+      begins = c.in-Some.ensures.page;
       served = c.in-Some.ensures.served;
       above = c.in-Some.ensures.above;
       limit = c.in-Some.ensures.limit;

@@ -1,5 +1,5 @@
 use Rattle.std.proofs.Common.{List, subst, sym}
-use Rattle.mapdb_rights.specs.ShownSpaces.{AreParts}
+use Rattle.mapdb_rights.specs.ShownSpaces.{CoverPages}
 use Rattle.mapdb_rights.specs.declared.index.served_pages.SteadyPages.{SteadyPages}
 use Rattle.mapdb_rights.proofs.Live.ShownParts.{parts_on}
 use Rattle.mapdb_replica.specs.Running.{IsSteadyPart}
@@ -12,6 +12,6 @@ pages-preserved c =
     record {
       limit = c.steady_at-next.ensures.steady.limit;
       steady =
-          subst (λ (l : List SteadyPages). AreParts (IsSteadyPart f) 0 c.steady_at-next.result.end l) (sym c.in_ok-push.ensures.items)
+          subst (λ (l : List SteadyPages). CoverPages (IsSteadyPart f) 0 c.steady_at-next.result.end l) (sym c.in_ok-push.ensures.items)
           (parts_on (IsSteadyPart f) 0 c.pages.page c.pages.parts.items c.steady_at-next.result (c.steady_at-next.ensures.page, c.steady_at-next.ensures.steady) c.pages.invariant.steady);
     }

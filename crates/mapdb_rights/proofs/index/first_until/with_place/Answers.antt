@@ -1,7 +1,7 @@
 use Rattle.std.proofs.Common.{sym, ◌∙◌}
 use Rattle.mapdb_facts.specs.Facts.{state_of_facts}
 use Rattle.mapdb_rights.proofs.Live.ShownPlaces.{found_stays, found_with, stretch_stays}
-use Rattle.mapdb_rights.proofs.index.shown_pages.with_place.Goals as goal
+use Rattle.mapdb_rights.proofs.index.first_until.with_place.Goals as goal
 
 pub returns-then-place-page-clause-first : goal.returns-then-place-page-clause-first
 returns-then-place-page-clause-first c =

@@ -1,5 +1,6 @@
 //! The first record of a space that has a right at a page, and how far all records of the space go
-//! on with what they have there, found in one walk over the places from the page on.
+//! on with what they have there, found in one walk over the places from the page on, or from a
+//! list of those that meet the pages.
 
 ghost use Rattle.std.specs.Prelude.{◌≡◌, ◌≤◌, ◌<◌, ℕ, true};
 ghost use Rattle.mapdb_facts.specs.Facts.{state_of_facts};
@@ -144,7 +145,7 @@ pub(crate) fn first_until(
 }
 
 /// The first record of the space that has a right at the page, and the end of pages over which all
-/// go on, where these are the places of the space that meet the pages up to before an end.
+/// go on, where each place of the space that meets the pages up to before an end is one of these.
 pub(crate) fn first_until_held(
     held: &[OwnPlace],
     until: u64,

@@ -2,7 +2,7 @@ use Rattle.std.proofs.Common.{◌+◌, ◌-◌, ◌<◌, ◌^◌, ◌≡◌, ◌
 use Rattle.std.proofs.Math.Pow.{pow_mono}
 use Rattle.std.proofs.lemmas.Bool.{lt-ltb}
 use Rattle.mapdb_lists.specs.OwnPlaces.{own_pages}
-use Rattle.mapdb_rights.proofs.index.place_walk.lasts_beyond.Goals as goal
+use Rattle.mapdb_rights.proofs.index.place_walk.reaches.Goals as goal
 
 at_least : (n m : ℕ) → n ≡ m → (n < 64 → ⊥) → 64 ≤ m
 at_least n m same not_below = grind arith

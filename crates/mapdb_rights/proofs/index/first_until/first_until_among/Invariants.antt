@@ -6,7 +6,7 @@ use Rattle.mapdb_lists.specs.Changes.{cached_in}
 use Rattle.mapdb_lists.specs.OwnPlaces.{ahead}
 use Rattle.mapdb_rights.proofs.Live.FirstWalks.{FirstPassed}
 use Rattle.mapdb_rights.proofs.Steady.ShownRuns.{Passed, Stays}
-use Rattle.mapdb_rights.proofs.index.shown_pages.first_until_among.Given as goal
+use Rattle.mapdb_rights.proofs.index.first_until.first_until_among.Given as goal
 
 -- none of the records of the places that were passed comes before the one that was found, and all
 -- of them go on up to the end

@@ -6,7 +6,7 @@ use Rattle.mapdb_lists.specs.OwnPlaces.{own_meets, stands}
 use Rattle.mapdb_lists.specs.declared.own_places.OwnPlace.{OwnPlace}
 use Rattle.mapdb_rights.proofs.Live.HeldWalks.{FirstHeld}
 use Rattle.mapdb_rights.proofs.Steady.ShownRuns.{Stays}
-use Rattle.mapdb_rights.proofs.index.shown_pages.first_until_held.Given as goal
+use Rattle.mapdb_rights.proofs.index.first_until.first_until_held.Given as goal
 
 -- none of the records of the places that were passed comes before the one that was found, and all
 -- of them go on up to the end

@@ -14,7 +14,7 @@ use Rattle.mapdb_rights.proofs.Live.HeldWalks.{FirstHeld, first_held, held_on, s
 use Rattle.mapdb_rights.proofs.Live.LiveOrders.{shown_live}
 use Rattle.mapdb_rights.proofs.Live.PassedPlaces.{passed_all}
 use Rattle.mapdb_rights.proofs.Steady.ShownRuns.{all_show, meets_more}
-use Rattle.mapdb_rights.proofs.index.shown_pages.first_until_held.Goals as goal
+use Rattle.mapdb_rights.proofs.index.first_until.first_until_held.Goals as goal
 
 pub loop-place-init : goal.loop-place-init
 loop-place-init c =

@@ -9,7 +9,7 @@ use Rattle.mapdb_rights.specs.declared.index.first_records.First.{First}
 use Rattle.mapdb_rights.proofs.Live.FirstWalks.{FirstPassed, first_all, first_fewer, first_on}
 use Rattle.mapdb_rights.proofs.Live.PassedPlaces.{none_passed}
 use Rattle.mapdb_rights.proofs.Steady.ShownRuns.{passed_all, passed_next, passed_none}
-use Rattle.mapdb_rights.proofs.index.shown_pages.first_until_among.Goals as goal
+use Rattle.mapdb_rights.proofs.index.first_until.first_until_among.Goals as goal
 
 pub places-init : goal.places-init
 places-init c = record {

@@ -3,7 +3,7 @@ use Rattle.mapdb_facts.specs.Facts.{state_of_facts}
 use Rattle.mapdb_lists.specs.Changes.{cached_in}
 use Rattle.mapdb_rights.proofs.Live.FirstWalks.{first_alone}
 use Rattle.mapdb_rights.proofs.Steady.ShownRuns.{none_there}
-use Rattle.mapdb_rights.proofs.index.shown_pages.first_until.Goals as goal
+use Rattle.mapdb_rights.proofs.index.first_until.first_until.Goals as goal
 
 pub first_until_among-requires-clause-places : goal.first_until_among-requires-clause-places
 first_until_among-requires-clause-places c = sym c.in-Some.ensures
