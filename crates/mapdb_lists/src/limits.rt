@@ -11,7 +11,7 @@ pub(crate) const ROOM_FOR_CHANGES: usize = 2;
 pub(crate) const FEW_PLACES: usize = 24;
 
 /// How many places stand in a list that is halved; more stand in a tree.
-pub(crate) const SOME_PLACES: usize = 1024;
+pub(crate) const SOME_PLACES: usize = 256;
 
 /// For each order below this there is a bit.
 pub(crate) const ORDER_LIMIT: u8 = 64;
