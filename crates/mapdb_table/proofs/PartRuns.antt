@@ -8,10 +8,6 @@ use Rattle.mapdb_replica.proofs.Pages.RunningPages.{Runs, longer}
 use Rattle.mapdb_rights.specs.ShownSpaces.{CoverPages}
 use Rattle.mapdb_rights.specs.declared.index.served_pages.SteadyPages.{SteadyPages}
 
--- the parts behind an index are the first of them and those behind it
-pub split_at : (parts : List SteadyPages) (n : ℕ) (d : SteadyPages) → n < length parts → drop n parts ≡ get_or parts n d ∷ drop (n + 1) parts
-split_at parts n d inside = let on : n + 1 ≡ suc n = omega arith in drop-cons parts n d inside ∙ ap (λ m. get_or parts n d ∷ drop m parts) (sym on)
-
 module _ (f : ℕ → Option Pair) where
   -- the pages up to an end belong to the run that begins at a page with the first pages, and those that are left begin there
   pub record RunsTo (page : ℕ) (first : SteadyPages) (end : ℕ) (rest : List SteadyPages) : Type 0 where

@@ -1,5 +1,6 @@
 -- The rows that are left, from run to run.
 use Rattle.std.proofs.Common.{◌≡◌, ℕ, ◌+◌, ◌-◌, ◌<◌, ◌≤◌, List, [], ◌∷◌, ◌++◌, append-nil, drop_of_length-le, false, sym, ap, subst, ◌∙◌, arith, drop, get_or, length}
+use Rattle.std.proofs.lemmas.List.{drop_more}
 use Rattle.std.specs.Prelude.{Option, None, Some}
 use Rattle.mapdb_fpage.specs.Bounds.{page_limit}
 use Rattle.mapdb_facts.specs.declared.names.Space.{Space}
@@ -9,7 +10,6 @@ use Rattle.mapdb_rights.specs.ShownSpaces.{CoverPages}
 use Rattle.mapdb_rights.specs.declared.index.served_pages.SteadyPages.{SteadyPages}
 use Rattle.mapdb_table.specs.Table.{row_of, rows_behind}
 use Rattle.mapdb_table.specs.declared.rows.TableRow.{TableRow}
-use Rattle.mapdb_table.proofs.PartRuns.{split_at}
 use Rattle.mapdb_table.proofs.RowLists.{behind-all, behind-row, behind-skip, none-over}
 
 -- where the first of these pages begins, or the end of the space
@@ -35,7 +35,7 @@ pub next_run : (f : ℕ → Option Pair) (parts : List SteadyPages) (place : ℕ
     → CoverPages (IsSteadyPart f) (begins (drop place parts)) page_limit (drop place parts) → NextRun f parts place (get_or parts place d) end behind
 next_run f parts place d end behind inside run rest h =
     let first = get_or parts place d in
-    let split : drop place parts ≡ first ∷ drop (place + 1) parts = split_at parts place d inside in
+    let split : drop place parts ≡ first ∷ drop (place + 1) parts = drop_more parts place d inside in
     let begun : begins (drop place parts) ≡ first.page = ap begins split in
     let parted : CoverPages (IsSteadyPart f) first.page page_limit (first ∷ drop (place + 1) parts) =
     subst (λ (l : List SteadyPages). CoverPages (IsSteadyPart f) first.page page_limit l) split (subst (λ n. CoverPages (IsSteadyPart f) n page_limit (drop place parts)) begun h) in

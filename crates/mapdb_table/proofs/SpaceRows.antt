@@ -22,10 +22,6 @@ use Rattle.mapdb_table.proofs.RowLists.{behind-all, behind-skip}
 
 -- The walk over the operations.
 
--- the operations behind an index are the first of them and those behind it
-pub split_op : (ops : List Op) (n : ℕ) (d : Op) → n < length ops → drop n ops ≡ get_or ops n d ∷ drop (n + 1) ops
-split_op ops n d inside = let on : n + 1 ≡ suc n = omega arith in drop-cons ops n d inside ∙ ap (λ m. get_or ops n d ∷ drop m ops) (sym on)
-
 -- the spaces of the records among these
 abbrev pub born_spaces : List Op → List Space
 born_spaces [] = []

@@ -1,5 +1,6 @@
 -- Places one after the other in the order of their first pages.
 use Rattle.std.proofs.Common.{◌≡◌, ℕ, ◌+◌, ◌-◌, ◌<◌, ◌≤◌, Bool, true, false, refl, sym, ap, subst, List, [], ◌∷◌, ◌++◌, ◌∙◌, arith, drop, get_or, inl, inr, length, suc, drop-cons, get_or-drop, length-drop}
+use Rattle.std.proofs.lemmas.List.{drop_more}
 use Rattle.std.specs.Prelude.{◌⊎◌, ◌||◌, ◌&&◌, filter, max, min, nat_lt}
 use Rattle.std.specs.BTreeMap.{is_at}
 use Rattle.std.specs.List.Sorted.{IsNonDecreasingBy}
@@ -43,11 +44,8 @@ pub first_or_later : (places : List OwnPlace) (i : ℕ) (d p : OwnPlace) → i <
     → (get_or places i d ≡ p) ⊎ (stands (drop (i + 1) places) p ≡ true)
 first_or_later places i d p inside has = elim (cases_Bool (is_at (place_cmp p) (get_or places i d))) [
   | inl here ↦ inl (sym (exact_place p (get_or places i d) here))
-  | inr other ↦ inr (ap (λ (b : Bool). b || stands (drop (i + 1) places) p) (sym other) ∙ ap (λ (l : List OwnPlace). stands l p) (sym (split places i d inside)) ∙ has)
+  | inr other ↦ inr (ap (λ (b : Bool). b || stands (drop (i + 1) places) p) (sym other) ∙ ap (λ (l : List OwnPlace). stands l p) (sym (drop_more places i d inside)) ∙ has)
 ]
-  where
-    split : (xs : List OwnPlace) (n : ℕ) (e : OwnPlace) → n < length xs → drop n xs ≡ get_or xs n e ∷ drop (n + 1) xs
-    split xs n e lt = let on : n + 1 ≡ suc n = omega arith in drop-cons xs n e lt ∙ ap (λ m. get_or xs n e ∷ drop m xs) (sym on)
 
 -- ---- in the order of their first pages
 

@@ -1,11 +1,12 @@
 use Rattle.std.proofs.Common.{◌+◌, ◌≡◌, ◌∙◌, ◌∷◌, List, ap, drop, drop_of_length-le, inl, inr, refl, subst, sym}
+use Rattle.std.proofs.lemmas.List.{drop_more}
 use Rattle.mapdb_facts.specs.Names.{first_space}
 use Rattle.mapdb_facts.specs.Records.{IsAmong}
 use Rattle.mapdb_facts.specs.State.{Gives, HasAtom, Rec}
 use Rattle.mapdb_facts.specs.declared.names.Space.{Space}
 use Rattle.mapdb_facts.specs.declared.operations.Op.{Op}
 use Rattle.mapdb_facts.proofs.Maps.Spaces.{placed_among}
-use Rattle.mapdb_table.proofs.SpaceRows.{Gathered, first_stays, gathered-first, gathered-last, gathered-next, split_op}
+use Rattle.mapdb_table.proofs.SpaceRows.{Gathered, first_stays, gathered-first, gathered-last, gathered-next}
 use Rattle.mapdb_table.proofs.spaces.gathered.Goals as goal
 
 pub loop-op-init : goal.loop-op-init
@@ -21,7 +22,7 @@ loop-op-preserved c =
     let i = c.loop-op.op-index in
     let rest = drop (i + 1) ops in
     let op = c.op-item.result in
-    let split : drop i ops ≡ op ∷ rest = split_op ops i op c.loop-op-test.true ∙ ap (λ (x : Op). x ∷ rest) (sym c.op-item.is) in
+    let split : drop i ops ≡ op ∷ rest = drop_more ops i op c.loop-op-test.true ∙ ap (λ (x : Op). x ∷ rest) (sym c.op-item.is) in
     record {
       so_far = subst (λ (xs : List Space). Gathered ops rest xs) (sym c.in_ok-add_space_of.ensures)
           (gathered-next ops rest op c.loop-op.spaces.keys c.requires
