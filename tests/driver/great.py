@@ -252,10 +252,28 @@ def space_each() -> Script:
         ("served 0 1.1 20000", "served 10000:rwx")])
 
 
+def numbers_with_gaps() -> Script:
+    """20,000 records with great numbers come first, then 12,000 with small ones from the last to
+    the first, and one of the last processor behind all; each snapshot lists them in their order."""
+    def records(numbers: Iterable[int]) -> str:
+        return wide_load([], [], ((number, 1, number, 0) for number in numbers))
+
+    behind = "[80100,63,1,0,80100,12,0,0,80100,7]"
+    all_names = records([*range(1, 12001), *range(60000, 80000)])
+    text = all_names.replace('],"version"', ',%s],"version"' % behind)
+    return script_of("numbers_with_gaps", [
+        ("processors 1", ""),
+        ("load 0 " + records(range(60000, 80000)), "taken 20000"),
+        ("load 0 " + records(range(12000, 0, -1)), "taken 12000"),
+        ('load 0 {"cuts":[],"ended":[],"records":[%s],"version":3}' % behind, "taken 1"),
+        ("rights 0 1 11170000", "rights 11170:rwx"),
+        *[("save 0", "snapshot " + text)] * 8])
+
+
 def full_copies() -> list[Script]:
     """Copies that are full, or nearly, and many commands."""
     return [full_copy_told(), copy_filled(), cuts_alone(), space_each(), chain_at_the_last_page(),
-            many_commands(), long_way(), pages_in_orders(4096)]
+            many_commands(), long_way(), pages_in_orders(4096), numbers_with_gaps()]
 
 
 def long_threads(processors: int) -> Script:

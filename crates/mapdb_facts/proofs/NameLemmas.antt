@@ -2,3 +2,4 @@
 pub mod NearWords
 pub mod NamedEntries
 pub mod NamesInOrder
+pub mod NextNames

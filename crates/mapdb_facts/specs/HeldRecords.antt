@@ -1,18 +1,18 @@
--- The records that are held, by name, and their names in order.
-use Rattle.std.specs.Prelude.{◌≡◌, ◌≢◌, List, [], ◌∷◌, Some}
-use Rattle.std.specs.Option.{is_some}
-use Rattle.std.specs.BTreeMap.{is_at}
-use Rattle.std.specs.List.{list_any}
+-- The records that are held, by name, and the greatest of their names.
+use Rattle.std.specs.Prelude.{◌≡◌, ◌≢◌, [], ◌∷◌, false, Option, Some, IfSome, IsSome}
+use Rattle.std.specs.Ordering.{is_lt}
 use Rattle.mapdb_join.specs.Entries.{IsFirstClash, excludes_under}
 use Rattle.mapdb_facts.specs.declared.names.RecordId.{RecordId}
 use Rattle.mapdb_facts.specs.declared.operations.Record.{Record}
 use Rattle.mapdb_facts.specs.Adding.{same_record}
 use Rattle.mapdb_facts.specs.Kept.{Records, id_cmp, record_in}
 
--- the names are those under which records are held
-abbrev pub IsOrderOf : Records → List RecordId → Type 0
-IsOrderOf records names =
-    (id : RecordId) → list_any (is_at (id_cmp id)) names ≡ is_some (record_in records id)
+-- the greatest name under which a record is held, where there is one
+pub record IsGreatestName (records : Records) (name : Option RecordId) : Type 0 where
+  pub held : IfSome name (λ id. IsSome (record_in records id))
+  pub some : (q : RecordId) → IsSome (record_in records q) → IsSome name
+  pub greatest : IfSome name (λ id. (q : RecordId) → IsSome (record_in records q)
+      → is_lt (id_cmp id q) ≡ false)
 
 -- one record alone, under a name
 abbrev pub one_under : RecordId → Record → Records

@@ -1,9 +1,11 @@
 -- Where names stand: near ones by their processor and number, far ones in a map.
-use Rattle.std.specs.Prelude.{◌≡◌, ◌==◌, ◌-◌, ℕ, List, [], slice_get, slice_index, Option, Some}
+use Rattle.std.specs.Prelude.{◌≡◌, ◌==◌, ◌-◌, ◌<◌, ◌≤◌, ◌⊎◌, ℕ, List, [], length, slice_get, slice_index, Option, Some}
 use Rattle.std.specs.Prelude.{None, if◌then◌else◌}
 use Rattle.std.specs.Global.{Vec}
+use Rattle.std.specs.BTreeMap.{is_at}
 use Rattle.std.specs.Map.{lookup}
-use Rattle.mapdb_facts.specs.Names.{same_id}
+use Rattle.mapdb_facts.specs.Kept.{id_cmp}
+use Rattle.mapdb_facts.specs.Names.{processor_limit}
 use Rattle.mapdb_facts.specs.declared.names.RecordId.{RecordId}
 use Rattle.mapdb_facts.specs.NamedValues.{place_of}
 use Rattle.mapdb_facts.specs.declared.name_places.NamePlaces.{NamePlaces}
@@ -20,9 +22,18 @@ near_word near id = slice_index (words_in (slice_get near id.processor)) id.numb
 -- the place of a name: a word is the place and one
 abbrev pub place_in : NamePlaces → RecordId → Option ℕ
 place_in places id =
-    if near_word places.near.items id == 0 then lookup (same_id id) places.far.entries
+    if near_word places.near.items id == 0 then lookup (is_at (id_cmp id)) places.far.entries
     else Some (near_word places.near.items id - 1)
+
+-- there are lists of near names for processors below the limit alone
+abbrev pub HaveFewLists : List (Vec ℕ) → Type 0
+HaveFewLists near = length near ≤ processor_limit
 
 -- each name has the place at which it stands, and no other has one
 pub record ArePlacesOf (places : NamePlaces) (names : List RecordId) : Type 0 where
   pub found : (id : RecordId) → place_in places id ≡ place_of id names
+  pub few : HaveFewLists places.near.items
+
+-- a name has a greater number, or this number and a processor that is not below the first
+abbrev pub IsFrom : ℕ → ℕ → RecordId → Type 0
+IsFrom number first id = (number < id.number) ⊎ ((number ≡ id.number) × (first ≤ id.processor))

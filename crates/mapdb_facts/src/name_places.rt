@@ -1,26 +1,27 @@
 //! Where names of records stand in a list of them: near ones by their number, far ones in a map.
+//! Both are met in the order of names.
 
-ghost use Rattle.std.specs.Prelude.{◌≡◌, ◌==◌, ◌+◌, ◌*◌, ◌<◌, ◌^◌, ℕ, None, Some, IfSome, OnOk, max};
+ghost use Rattle.std.specs.Prelude.{◌≡◌, ◌==◌, ◌+◌, ◌*◌, ◌<◌, ◌≤◌, ◌^◌, ℕ, None, Some, IfSome, OnOk, max};
 ghost use Rattle.std.specs.Prelude.{OnErr, if◌then◌else◌, slice_index, vec_len};
-ghost use Rattle.mapdb_facts.specs.Names.{same_id};
+ghost use Rattle.mapdb_facts.specs.Names.{processor_limit, same_id};
 ghost use Rattle.mapdb_facts.specs.declared.names.RecordId.{RecordId};
-ghost use Rattle.mapdb_facts.specs.NamePlaces.{near_word, place_in};
+ghost use Rattle.mapdb_facts.specs.NamePlaces.{HaveFewLists, near_word, place_in};
 
 use crate::limits::{NEAR_NUMBERS, PROCESSOR_LIMIT};
 use crate::names::RecordId;
 use std::alloc::{AllocError, Global};
-use std::collections::HashMap;
+use std::collections::BTreeMap;
 
 /// The places of names. Which names are near is a matter of speed alone.
 #[derive(Drop)]
 pub struct NamePlaces {
-    near: Vec<Vec<u32>>,
-    far: HashMap<RecordId, usize>,
+    pub(crate) near: Vec<Vec<u32>>,
+    pub(crate) far: BTreeMap<RecordId, usize>,
     alloc: Global,
 }
 
 /// The word of a name among near ones: its place and one, or 0.
-fn near_word(near: &[Vec<u32>], id: RecordId) -> u32
+pub(crate) fn near_word(near: &[Vec<u32>], id: RecordId) -> u32
     ensures { result ≡ near_word near.now id }
 {
     match near.get(id.processor as usize) {
@@ -39,6 +40,7 @@ fn near_word(near: &[Vec<u32>], id: RecordId) -> u32
 fn word_for(id: RecordId, at: usize, elsewhere: usize) -> Option<u32>
     ensures word { IfSome result (λ word. word ≡ at + 1) }
     ensures number { IfSome result (λ _. id.number + 1 < 2 ^ 64) }
+    ensures processor { IfSome result (λ _. id.processor < processor_limit) }
     ensures near { IfSome result (λ _. id.number < 2 * (max at elsewhere) + NEAR_NUMBERS) }
 {
     let names = at.max(elsewhere) as u64;
@@ -52,7 +54,9 @@ fn word_for(id: RecordId, at: usize, elsewhere: usize) -> Option<u32>
 /// Has lists up to that of a processor. An error where memory ran out.
 #[inline(always)]
 fn reach(near: &mut Vec<Vec<u32>>, alloc: Global, processor: u8) -> Result<(), AllocError>
+    requires { processor < processor_limit }
     ensures reached { OnOk result (processor < vec_len near.new) }
+    ensures few { HaveFewLists near.old.items → HaveFewLists near.new.items }
     ensures same { (q : RecordId) → near_word near.new.items q ≡ near_word near.old.items q }
 {
     while near.len() <= processor as usize {
@@ -97,7 +101,9 @@ fn put_near(
     id: RecordId,
     word: u32,
 ) -> Result<(), AllocError>
-    requires { id.number + 1 < 2 ^ 64 }
+    requires number { id.number + 1 < 2 ^ 64 }
+    requires processor { id.processor < processor_limit }
+    ensures few { HaveFewLists near.old.items → HaveFewLists near.new.items }
     ensures ok { OnOk result ((q : RecordId) → near_word near.new.items q
         ≡ (if same_id id q then word else near_word near.old.items q)) }
     ensures err { OnErr result ((q : RecordId) → near_word near.new.items q
@@ -110,11 +116,12 @@ fn put_near(
 impl NamePlaces {
     /// No places. It takes no memory.
     pub(crate) fn new(alloc: Global) -> NamePlaces
-        ensures { (id : RecordId) → place_in result id ≡ None }
+        ensures none { (id : RecordId) → place_in result id ≡ None }
+        ensures few { HaveFewLists result.near.items }
     {
         NamePlaces {
             near: Vec::new(alloc),
-            far: HashMap::new(alloc),
+            far: BTreeMap::new(alloc),
             alloc,
         }
     }
@@ -144,6 +151,7 @@ impl NamePlaces {
         elsewhere: usize,
     ) -> Result<(), AllocError>
         requires { place_in self.old id ≡ None }
+        ensures few { HaveFewLists self.old.near.items → HaveFewLists self.new.near.items }
         ensures ok { OnOk result ((q : RecordId) → place_in self.new q
             ≡ (if same_id id q then Some at else place_in self.old q)) }
         ensures err { OnErr result ((q : RecordId) → place_in self.new q ≡ place_in self.old q) }

@@ -1,101 +1,73 @@
-//! The records that are held, by name: each is found at once, and all are met in their order.
+//! The records that are held, by name: each is found by its name, and the next name and the
+//! greatest one are known.
 
 ghost use Rattle.std.specs.Prelude.{◌≡◌, ◌↔◌, [], IfNone, IfOk, IfSome, IsSome, IsTrue};
-ghost use Rattle.std.specs.Prelude.{MatchOption, None, OnErr, OnOk, false};
+ghost use Rattle.std.specs.Prelude.{◌⊎◌, MatchOption, None, OnErr, OnOk, Some, false, length};
 ghost use Rattle.std.specs.BTreeMap.Range.{IsLeBy};
-ghost use Rattle.std.specs.BTreeSet.{contains};
 ghost use Rattle.std.specs.Ordering.{is_lt};
-ghost use Rattle.std.specs.declared.cmp.Ordering.TheVariants.{Less};
 ghost use Rattle.mapdb_join.specs.Atoms.{Clashes, HasNone, Includes, IsBetween, IsSame, IsUnion};
 ghost use Rattle.mapdb_join.specs.Keys.{IsAbove};
-ghost use Rattle.mapdb_facts.specs.HeldRecords.{CoversAt, DifferUnder, IsClashAt, IsOrderOf};
+ghost use Rattle.mapdb_facts.specs.HeldRecords.{CoversAt, DifferUnder, IsClashAt, IsGreatestName};
 ghost use Rattle.mapdb_facts.specs.HeldRecords.{excludes_record, one_under};
 ghost use Rattle.mapdb_facts.specs.Kept.{has_record, id_cmp, record_in};
 ghost use Rattle.mapdb_facts.specs.declared.names.RecordId.{RecordId};
 
 use crate::by_name::ByName;
 use crate::names::RecordId;
+use crate::next_names::lesser;
 use crate::operations::Record;
 use std::alloc::{AllocError, Global};
-use std::collections::BTreeSet;
 use std::marker::Model;
-use std::ops::Bound;
 
 /// Records by name.
 #[derive(Drop)]
 pub struct RecordsByName {
     by_name: ByName<Record>,
-    order: BTreeSet<RecordId>,
+    /// The greatest name under which a record is held.
+    greatest: Option<RecordId>,
     alloc: Global,
 }
 
 impl Model for RecordsByName {
-    ghost use Rattle.mapdb_facts.specs.HeldRecords.{IsOrderOf};
+    ghost use Rattle.mapdb_facts.specs.HeldRecords.{IsGreatestName};
     ghost use Rattle.mapdb_facts.specs.Kept.{Records};
 
     ghost Value = { Records };
 
     ghost view = { λ a. a.by_name.entries };
 
-    ghost invariant = { λ a. IsOrderOf a.by_name.entries a.order.keys };
+    ghost invariant = { λ a. IsGreatestName a.by_name.entries a.greatest };
 }
 
-/// The least name.
-fn first_name(order: &BTreeSet<RecordId>) -> Option<RecordId>
-    ensures none { MatchOption result
-        ((q : RecordId) → contains id_cmp order.now q ≡ false) (λ _. Unit {0}) }
-    ensures found { IfSome result (λ id. IsTrue (contains id_cmp order.now id)) }
-    ensures least { IfSome result (λ id. (q : RecordId) → IsTrue (contains id_cmp order.now q)
-        → IsLeBy id_cmp id q) }
+/// The greater of a name and another, where there is one.
+fn greater(name: Option<RecordId>, id: RecordId) -> RecordId
+    ensures one { IfSome name (λ other. is_lt (id_cmp result other) ≡ false) }
+    ensures other { is_lt (id_cmp result id) ≡ false }
+    ensures either { (result ≡ id) ⊎ (name ≡ Some result) }
 {
-    order.first().copied()
-}
-
-/// The least name above another.
-fn name_above(order: &BTreeSet<RecordId>, after: RecordId) -> Option<RecordId>
-    ensures none { MatchOption result
-        ((q : RecordId) → id_cmp after q ≡ Less → contains id_cmp order.now q ≡ false)
-        (λ _. Unit {0}) }
-    ensures found { IfSome result (λ id. (id_cmp after id ≡ Less)
-        × IsTrue (contains id_cmp order.now id)) }
-    ensures least { IfSome result (λ id. (q : RecordId) → id_cmp after q ≡ Less
-        → IsTrue (contains id_cmp order.now q) → IsLeBy id_cmp id q) }
-{
-    let above = (Bound::Excluded(after), Bound::Unbounded);
-    order.range(above).next().copied()
-}
-
-/// The greatest name.
-fn last_name(order: &BTreeSet<RecordId>) -> Option<RecordId>
-    ensures none { MatchOption result
-        ((q : RecordId) → contains id_cmp order.now q ≡ false) (λ _. Unit {0}) }
-    ensures found { IfSome result (λ id. IsTrue (contains id_cmp order.now id)) }
-    ensures greatest { IfSome result (λ id. (q : RecordId) → IsTrue (contains id_cmp order.now q)
-        → is_lt (id_cmp id q) ≡ false) }
-{
-    order.last().copied()
+    match name {
+        Some(other) if id.is_before(other) => other,
+        _ => id,
+    }
 }
 
 /// Holds a record under a name that has none. An error where memory ran out, and then the same
-/// records and names are kept.
+/// records are kept.
 fn add_new(
     by_name: &mut ByName<Record>,
-    order: &mut BTreeSet<RecordId>,
+    greatest: &mut Option<RecordId>,
     id: RecordId,
     mapping: Record,
 ) -> Result<(), AllocError>
     requires absent { record_in by_name.old.entries id ≡ None }
-    requires order { IsOrderOf by_name.old.entries order.old.keys }
-    ensures order { IsOrderOf by_name.new.entries order.new.keys }
+    requires greatest { IsGreatestName by_name.old.entries greatest.old }
+    ensures greatest { IsGreatestName by_name.new.entries greatest.new }
     ensures ok { OnOk result (IsUnion has_record by_name.old.entries (one_under id mapping)
         by_name.new.entries) }
     ensures err { OnErr result (by_name.new.entries ≡ by_name.old.entries) }
 {
-    order.insert(id)?;
-    if let Err(refused) = by_name.insert(id, mapping) {
-        order.remove(&id);
-        return Err(refused);
-    }
+    by_name.insert(id, mapping)?;
+    *greatest = Some(greater(*greatest, id));
     Ok(())
 }
 
@@ -106,7 +78,7 @@ impl RecordsByName {
     {
         RecordsByName {
             by_name: ByName::new(alloc),
-            order: BTreeSet::new(alloc),
+            greatest: None,
             alloc,
         }
     }
@@ -120,8 +92,10 @@ impl RecordsByName {
     }
 
     /// How many records are held.
-    pub(crate) fn len(&self) -> usize {
-        self.by_name.values.len()
+    pub(crate) fn len(&self) -> usize
+        ensures { result ≡ length self.now }
+    {
+        self.by_name.len()
     }
 
     /// The least name above another, or of all, under which a record is held.
@@ -134,10 +108,7 @@ impl RecordsByName {
         ensures least { IfSome result (λ id. (q : RecordId) → IsAbove id_cmp after q
             → IsSome (record_in self.now q) → IsLeBy id_cmp id q) }
     {
-        match after {
-            Some(id) => name_above(&self.order, id),
-            None => first_name(&self.order),
-        }
+        self.by_name.next_name(after)
     }
 
     /// The greatest name under which a record is held.
@@ -148,7 +119,7 @@ impl RecordsByName {
         ensures greatest { IfSome result (λ id. (q : RecordId) → IsSome (record_in self.now q)
             → is_lt (id_cmp id q) ≡ false) }
     {
-        last_name(&self.order)
+        self.greatest
     }
 
     /// Holds a record under a name that has none, or this very record. An error where memory ran
@@ -161,7 +132,7 @@ impl RecordsByName {
         if self.by_name.get(id).is_some() {
             return Ok(());
         }
-        add_new(&mut self.by_name, &mut self.order, id, mapping)
+        add_new(&mut self.by_name, &mut self.greatest, id, mapping)
     }
 
     /// Whether both hold different records under a name.
@@ -180,12 +151,13 @@ impl RecordsByName {
         ensures some { IfSome result (λ id. Clashes has_record excludes_record self.now other.now
             × IsClashAt self.now other.now id) }
     {
-        for id in &other.order {
+        let mut least = None;
+        for id in other.by_name.keys() {
             if self.differs_at(other, *id) {
-                return Some(*id);
+                least = lesser(least, Some(*id));
             }
         }
-        None
+        least
     }
 
     /// Whether these hold what the other holds under a name.
@@ -202,7 +174,7 @@ impl RecordsByName {
     pub(crate) fn covers(&self, other: &RecordsByName) -> bool
         ensures { IsTrue result ↔ Includes has_record self.now other.now }
     {
-        for id in &other.order {
+        for id in other.by_name.keys() {
             if !self.covers_at(other, *id) {
                 return false;
             }
@@ -214,7 +186,7 @@ impl RecordsByName {
     pub(crate) fn is_none(&self) -> bool
         ensures { IsTrue result ↔ HasNone has_record self.now }
     {
-        self.order.is_empty()
+        self.greatest.is_none()
     }
 
     /// Holds each record that the other holds too. An error where memory ran out, and then some of
@@ -224,7 +196,7 @@ impl RecordsByName {
         ensures ok { OnOk result (IsUnion has_record self.old other.now self.new) }
         ensures err { OnErr result (IsBetween has_record self.old other.now self.new) }
     {
-        for id in &other.order {
+        for id in other.by_name.keys() {
             if let Some(theirs) = other.get(*id) {
                 self.add(*id, theirs)?;
             }

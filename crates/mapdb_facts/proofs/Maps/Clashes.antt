@@ -1,6 +1,6 @@
 -- Where maps of records clash, and under which names.
 use Rattle.std.specs.Prelude.{◌≡◌, ◌≢◌, Bool, true, false, IfNone, IfSome, Option, Some, None, if◌then◌else◌, refl}
-use Rattle.std.proofs.Common.{sym, ◌∙◌, ap, inl, inr}
+use Rattle.std.proofs.Common.{sym, ◌∙◌, inl, inr}
 use Rattle.std.proofs.lemmas.Bool.{cases_Bool}
 use Rattle.mapdb_join.specs.Atoms.{Clashes}
 use Rattle.mapdb_facts.specs.declared.names.RecordId.{RecordId}

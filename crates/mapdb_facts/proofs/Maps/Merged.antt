@@ -1,19 +1,16 @@
 -- What a merge leaves of three maps.
 use Rattle.std.specs.Prelude.{◌⊎◌, Bool, List}
-use Rattle.std.proofs.Common.{sym, ◌∙◌, subst, inl, inr}
+use Rattle.std.proofs.Common.{sym, ◌∙◌, inl, inr}
 use Rattle.std.proofs.lemmas.Bool.{or_cases, or_left}
 use Rattle.mapdb_join.specs.Atoms.{IsBetween, IsUnion}
-use Rattle.mapdb_join.specs.Entries.{IsFirstClash, excludes_under}
 use Rattle.mapdb_join.specs.Faults.{FaultLeaves, TellsMemory}
 use Rattle.mapdb_join.specs.Grow.{has_key}
 use Rattle.mapdb_join.specs.declared.merge.MergeFault.{MergeFault}
 use Rattle.mapdb_join.specs.declared.merge.MergeFault.TheVariants.{Clash, Memory}
-use Rattle.mapdb_facts.specs.declared.names.RecordId.{RecordId}
 use Rattle.mapdb_facts.specs.declared.names.Space.{Space}
 use Rattle.mapdb_facts.specs.Facts.{state_of_facts}
-use Rattle.mapdb_facts.specs.Kept.{Cuts, IsFacts, Kept, Records, cut_in, ended_in, has_cut, has_record, id_cmp, space_cmp}
-use Rattle.mapdb_join.specs.Runs.{has_at}
-use Rattle.mapdb_facts.specs.Merging.{Includes, IsStateBetween, MergeLeaves}
+use Rattle.mapdb_facts.specs.Kept.{Cuts, IsFacts, Kept, Records, cut_in, ended_in, has_cut, has_record, space_cmp}
+use Rattle.mapdb_facts.specs.Merging.{Includes, IsStateBetween}
 use Rattle.mapdb_facts.specs.State.{Atom, End, Has, Rec, Rev}
 use Rattle.mapdb_facts.proofs.Maps.CutAtoms.{cut_with, cut_within}
 use Rattle.mapdb_facts.proofs.Maps.KeptFacts.{formed_within, rights_within}

@@ -1,12 +1,11 @@
 -- What is taken, by names in the order in which they came.
-use Rattle.std.specs.Prelude.{◌≡◌, ◌↔◌, ◌⊎◌, ◌<◌, ◌≤◌, ◌+◌, ℕ, suc, true, cond, List, [], ◌∷◌, length, Some, None, Result, Ok, Err, is_ok, IfErr, OnOk, OnErr, slice_get, refl}
+use Rattle.std.specs.Prelude.{◌≡◌, ◌↔◌, ◌⊎◌, ◌<◌, ◌≤◌, ◌+◌, ℕ, suc, true, cond, List, [], ◌∷◌, length, Some, None, Result, Ok, Err, is_ok, IfErr, OnOk, OnErr, slice_get}
 use Rattle.std.proofs.Common.{set, sym, ◌∙◌, ap, subst, inl, inr, arith}
 use Rattle.std.specs.BTreeMap.{is_at}
-use Rattle.std.specs.Cmp.{IsTotalOrder, both_ways}
+use Rattle.std.specs.Cmp.{both_ways}
 use Rattle.std.specs.List.{zip}
 use Rattle.std.specs.Map.{lookup}
-use Rattle.std.proofs.lemmas.Bool.{cases_Bool, cases_eq, cond-false, cond-true, or_cases, or_left, or_right, true≢false}
-use Rattle.std.proofs.lemmas.Cmp.{nat_cmp_total, on_total, then_total}
+use Rattle.std.proofs.lemmas.Bool.{cases_Bool, cases_eq, cond-false, or_cases, or_left, or_right, true≢false}
 use Rattle.std.proofs.lemmas.Option.{slice_get_within}
 use Rattle.mapdb_join.specs.Atoms.{HasNone, Includes, IsBetween, IsSame, IsUnion}
 use Rattle.mapdb_join.specs.Entries.{IsChangedAt, some_has}
@@ -19,8 +18,8 @@ use Rattle.mapdb_facts.specs.Kept.{Cuts, has_cut, id_cmp}
 use Rattle.mapdb_facts.specs.NamedValues.{place_of}
 use Rattle.mapdb_facts.specs.Names.{same_id}
 use Rattle.mapdb_facts.specs.declared.names.RecordId.{RecordId}
-use Rattle.mapdb_facts.proofs.Lists.Comparing.{exact_ids, id_at}
-use Rattle.mapdb_facts.proofs.Lists.SameNames.{same_id_itself, same_id_true}
+use Rattle.mapdb_facts.proofs.Lists.Comparing.{exact_ids}
+use Rattle.mapdb_facts.proofs.Lists.SameNames.{same_id_true}
 use Rattle.mapdb_facts.proofs.NameLemmas.NamedEntries.{found_at, given_at}
 use Rattle.mapdb_facts.proofs.NameLemmas.NamesInOrder.{changed_from, id_total, one_lookup}
 

@@ -1,9 +1,13 @@
 -- What is found by a name among values beside their names.
 use Rattle.std.proofs.Common.{◌≡◌, ℕ, zero, suc, ◌<◌, List, [], ◌∷◌, ◌++◌, length, set, refl, ap, sym, ◌∙◌, Bool, true, false, cond, inl, inr, arith}
-use Rattle.std.specs.Prelude.{Option, None, Some, map, option_map, slice_get}
+use Rattle.std.specs.Prelude.{Option, None, Some, IfSome, IsSome, MatchOption, map, option_map, slice_get}
+use Rattle.std.specs.BTreeMap.Range.{IsLeBy}
+use Rattle.std.specs.Option.{is_some}
 use Rattle.std.specs.List.{zip}
 use Rattle.std.specs.Map.{lookup}
 use Rattle.std.proofs.lemmas.Bool.{cases_Bool, cond-false, cond-true, false_from_ne_true, false≢true}
+use Rattle.mapdb_join.specs.Keys.{IsAbove}
+use Rattle.mapdb_facts.specs.Kept.{id_cmp}
 use Rattle.mapdb_facts.specs.Names.{same_id}
 use Rattle.mapdb_facts.specs.declared.names.RecordId.{RecordId}
 use Rattle.mapdb_facts.proofs.Lists.SameNames.{same_id_at, same_id_true}
@@ -144,3 +148,37 @@ names_set [] values at value = refl
 names_set (name ∷ names) [] at value = refl
 names_set (name ∷ names) (other ∷ values) zero value = refl
 names_set (name ∷ names) (other ∷ values) (suc at) value = ap (λ behind. name ∷ behind) (names_set names values at value)
+
+-- ---- the names that have values, in their order
+
+some_behind : (o : Option ℕ) → is_some (option_map suc o) ≡ is_some o
+some_behind None = refl
+some_behind (Some n) = refl
+
+some_either : {V : Type 0} (b : Bool) (value : V) (o : Option ℕ) (p : Option V) → is_some o ≡ is_some p → is_some (cond b (Some 0) (option_map suc o)) ≡ is_some (cond b (Some value) p)
+some_either true value o p e = refl
+some_either false value o p e = some_behind o ∙ e
+
+-- a name has a place where it has a value
+pub placed_valued : {V : Type 0} (names : List RecordId) (values : List V) (id : RecordId) → length names ≡ length values
+    → is_some (place_of id names) ≡ is_some (lookup (same_id id) (zip names values))
+placed_valued [] values id even = refl
+placed_valued (name ∷ names) [] id even = absurd (omega (arith, even))
+placed_valued (name ∷ names) (value ∷ values) id even =
+    some_either (same_id id name) value (place_of id names) (lookup (same_id id) (zip names values)) (placed_valued names values id (omega (arith, even)))
+
+module _ {V : Type 0} (names : List RecordId) (values : List V) (even : length names ≡ length values) (after : Option RecordId) where
+  pub next_none : (r : Option RecordId) → MatchOption r ((q : RecordId) → IsAbove id_cmp after q → place_of q names ≡ None) (λ _. Unit {0})
+      → MatchOption r ((q : RecordId) → IsAbove id_cmp after q → lookup (same_id q) (zip names values) ≡ None) (λ _. Unit {0})
+  next_none None none = λ q above. sym (found_nowhere names values q (none q above))
+  next_none (Some id) none = tt
+
+  pub next_found : (r : Option RecordId) → IfSome r (λ id. IsAbove id_cmp after id × IsSome (place_of id names))
+      → IfSome r (λ id. IsAbove id_cmp after id × IsSome (lookup (same_id id) (zip names values)))
+  next_found None found = tt
+  next_found (Some id) found = (found.0, sym (placed_valued names values id even) ∙ found.1)
+
+  pub next_least : (r : Option RecordId) → IfSome r (λ id. (q : RecordId) → IsAbove id_cmp after q → IsSome (place_of q names) → IsLeBy id_cmp id q)
+      → IfSome r (λ id. (q : RecordId) → IsAbove id_cmp after q → IsSome (lookup (same_id q) (zip names values)) → IsLeBy id_cmp id q)
+  next_least None least = tt
+  next_least (Some id) least = λ q above held. least q above (placed_valued names values q even ∙ held)

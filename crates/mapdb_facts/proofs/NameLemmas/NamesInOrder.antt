@@ -1,17 +1,14 @@
 -- Values that are looked up by names in their order.
-use Rattle.std.specs.Prelude.{◌≡◌, ◌⊎◌, Bool, true, false, cond, ◌||◌, List, [], ◌∷◌, Option, Some, None, IsSome, refl}
-use Rattle.std.proofs.Common.{sym, ◌∙◌, ap, subst, inl, inr}
+use Rattle.std.specs.Prelude.{◌≡◌, Bool, true, cond, ◌||◌, List, [], ◌∷◌, Option, Some, None, refl}
+use Rattle.std.proofs.Common.{sym, ◌∙◌, ap, inl, inr}
 use Rattle.std.specs.Option.{is_some}
 use Rattle.std.specs.Cmp.{IsTotalOrder, nat_cmp_total, on_total, then_total}
-use Rattle.std.specs.Ordering.{nat_cmp}
 use Rattle.std.specs.BTreeMap.{is_at}
-use Rattle.std.specs.List.{filter, list_any}
-use Rattle.std.proofs.lemmas.List.Kept.{IsStrictlySortedBy-filter}
-use Rattle.std.specs.List.Sorted.{IsStrictlySortedBy}
-use Rattle.std.specs.Map.{keys_of, lookup}
+use Rattle.std.specs.List.{list_any}
+use Rattle.std.specs.Map.{lookup}
 use Rattle.std.proofs.lemmas.Bool.{and_from, cond-false, cond-true, or_cases, or_left, or_right, true≢false}
 use Rattle.mapdb_join.specs.Entries.{IsChangedAt, has_under, some_has}
-use Rattle.mapdb_join.proofs.Walking.{AreFound, Covered, Parted, any_entry, in_entry}
+use Rattle.mapdb_join.proofs.Walking.{AreFound, Covered, any_entry, in_entry}
 use Rattle.mapdb_facts.specs.declared.names.RecordId.{RecordId}
 use Rattle.mapdb_facts.specs.Kept.{id_cmp}
 use Rattle.mapdb_facts.specs.Names.{same_id}
@@ -84,19 +81,6 @@ module _ {V : Type 0} (entries : List (RecordId × V)) where
   abbrev is_held : RecordId → Bool
   is_held id = is_some (lookup (is_at (id_cmp id)) entries)
 
-  keys_with : (id : RecordId) (o : Option V) (rest : List (RecordId × V)) → keys_of (with_found id o rest) ≡ cond (is_some o) (id ∷ keys_of rest) (keys_of rest)
-  keys_with id None rest = refl
-  keys_with id (Some v) rest = refl
-
-  found_keys : (ids : List RecordId) → filter is_held ids ≡ keys_of (found_by entries ids)
-  found_keys [] = refl
-  found_keys (id ∷ ids) =
-      ap (λ rest. cond (is_held id) (id ∷ rest) rest) (found_keys ids)
-      ∙ sym (keys_with id (lookup (is_at (id_cmp id)) entries) (found_by entries ids))
-
-  pub found_sorted : (ids : List RecordId) → IsStrictlySortedBy id_cmp ids → IsStrictlySortedBy id_cmp (keys_of (found_by entries ids))
-  found_sorted ids sorted = subst (λ keys. IsStrictlySortedBy id_cmp keys) (found_keys ids) (IsStrictlySortedBy-filter id_cmp is_held ids sorted)
-
   some_held : {A : Type 0} (has : V → A → Bool) (o : Option V) (x : A) → some_has has o x ≡ true → is_some o ≡ true
   some_held has None x h = absurd (true≢false (sym h))
   some_held has (Some v) x h = refl
@@ -109,10 +93,3 @@ module _ {V : Type 0} (entries : List (RecordId × V)) where
 
     pub covered_from : Covered id_cmp has map entries (found_by entries ids)
     covered_from = record { left = λ p h. inr (any_had p h); found = are_found ids }
-
-    pub parted_from : (excludes : A → A → Type 0) → IsStrictlySortedBy id_cmp ids → Parted id_cmp has excludes map entries (found_by entries ids)
-    parted_from excludes sorted = record {
-      left = λ k x y h i e. any_had (k, y) i;
-      found = are_found ids;
-      sorted = found_sorted ids sorted;
-    }

@@ -17,4 +17,5 @@ invariant_of-self-2 c =
           ∙ ap (λ n. cond (same_id c.args.id q) (Some n) (place_of q names)) at
           ∙ sym (place_added names c.args.id q (ap (place_of c.args.id) c.self.view_is ∙ c.requires))
           ∙ ap (λ (l : List RecordId). place_of q l) (sym (c.push_reserved.ensures.items ∙ ap (λ (l : List RecordId). l ++ c.args.id ∷ []) c.in_ok-reserve.ensures.items));
+      few = c.in_ok-put.ensures.few c.self.invariant.few;
     }

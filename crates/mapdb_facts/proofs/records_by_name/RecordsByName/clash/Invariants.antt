@@ -1,9 +1,6 @@
-use Rattle.std.specs.Prelude.{◌≢◌}
-use Rattle.mapdb_join.proofs.Walking.{Parted}
-use Rattle.mapdb_facts.specs.Adding.{same_record}
-use Rattle.mapdb_facts.specs.Kept.{id_cmp}
-use Rattle.mapdb_facts.proofs.NameLemmas.NamesInOrder.{found_by}
+use Rattle.std.proofs.Common.{drop}
+use Rattle.mapdb_facts.proofs.RecordLemmas.HeldInOrder.{IsLeastSoFar}
 use Rattle.mapdb_facts.proofs.records_by_name.RecordsByName.clash.Given as goal
 
 abbrev pub invariant-loop-id : goal.invariant-loop-id
-invariant-loop-id l = Parted id_cmp same_record (λ x y. x ≢ y) l.self l.other (found_by l.other l.id-iterator)
+invariant-loop-id l = IsLeastSoFar l.self l.other (drop l.id-index l.id-items) l.least
