@@ -14,3 +14,6 @@ invariant_of-self g c =
       k.1,
       k.2,
     )
+
+pub returns-in-Err-clause-put : goal.returns-in-Err-clause-put
+returns-in-Err-clause-put g c = tt
