@@ -1,4 +1,4 @@
-use Rattle.std.proofs.Common.{List, subst, sym}
+use Rattle.std.proofs.Common.{List, rules, subst, sym}
 use Rattle.mapdb_facts.specs.Facts.{state_of_facts}
 use Rattle.mapdb_rights.specs.PlaceWalks.{HasCome}
 use Rattle.mapdb_rights.specs.ShownSpaces.{CoverPages, IsShownFrom}
@@ -15,3 +15,9 @@ pages-preserved c = record {
       subst (λ (l : List SteadyPages). CoverPages (IsShownFrom (state_of_facts c.args.facts.now) c.args.space) 0 c.in_ok-next.next.end l) (sym c.in_ok-push.ensures.items)
       (parts_on (IsShownFrom (state_of_facts c.args.facts.now) c.args.space) 0 c.pages.page c.pages.shown.items c.in_ok-next.next c.in_ok-next.ensures.shown c.pages.invariant.shown);
 }
+
+pub returns-clause-there : goal.returns-clause-there
+returns-clause-there c = search rules
+
+pub returns-clause-shown : goal.returns-clause-shown
+returns-clause-shown c = search rules
