@@ -1,5 +1,5 @@
 -- The spaces that there are, gathered from one operation after the other, and what others have: no rows.
-use Rattle.std.proofs.Common.{◌≡◌, ℕ, refl, sym, ap, subst, ◌∙◌, List, [], ◌∷◌, ◌+◌, ◌<◌, drop, drop-cons, get_or, inl, inr, arith, length, suc}
+use Rattle.std.proofs.Common.{◌≡◌, ℕ, refl, sym, ap, subst, ◌∙◌, List, [], ◌∷◌, inl, inr, arith}
 use Rattle.std.specs.Prelude.{◌⊎◌, None, Option}
 use Rattle.mapdb_fpage.specs.Bounds.{page_limit}
 use Rattle.mapdb_facts.specs.Names.{first_space}
