@@ -86,32 +86,16 @@ impl<V: Drop> ByName<V> {
         self.names.next(after)
     }
 
-    /// Gives a name a value, in place of the one that it has; a new name stands behind the others.
-    /// An error where memory ran out, and then nothing has changed.
-    pub fn insert(&mut self, id: RecordId, value: V) -> Result<(), AllocError>
+    /// Gives a value to a name that has none, behind the others, where there are so many names
+    /// elsewhere, as of records, of which few have a value here: a name with a great number is
+    /// found as fast then. An error where memory ran out, and then nothing has changed.
+    #[inline(always)]
+    pub fn insert(&mut self, id: RecordId, value: V, elsewhere: usize) -> Result<(), AllocError>
+        requires { lookup (same_id id) self.old.entries ≡ None }
         ensures ok { OnOk result (IsInserted self.old id value self.new) }
         ensures names { OnOk result (names_of self.new ≡ with_name (names_of self.old) id) }
         ensures err { OnErr result (self.new.entries ≡ self.old.entries) }
     {
-        self.insert_beside(id, value, 0)
-    }
-
-    /// The same, where there are so many names elsewhere, as of records, of which few have a value
-    /// here: a name with a great number is found as fast then.
-    pub fn insert_beside(
-        &mut self,
-        id: RecordId,
-        value: V,
-        elsewhere: usize,
-    ) -> Result<(), AllocError>
-        ensures ok { OnOk result (IsInserted self.old id value self.new) }
-        ensures names { OnOk result (names_of self.new ≡ with_name (names_of self.old) id) }
-        ensures err { OnErr result (self.new.entries ≡ self.old.entries) }
-    {
-        if let Some(at) = self.names.place(id) {
-            self.values[at] = value;
-            return Ok(());
-        }
         self.values.reserve(1)?;
         self.names.add(id, elsewhere)?;
         self.values.push_reserved(value);

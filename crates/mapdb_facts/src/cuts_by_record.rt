@@ -66,7 +66,7 @@ fn merge_under(cuts: &mut ByName<Runs>, id: RecordId, theirs: &Runs) -> Result<(
         return cuts.values[at].merge(theirs).map_err(MergeFault::refusal);
     }
     let copy = theirs.copy()?;
-    cuts.insert(id, copy)
+    cuts.insert(id, copy, 0)
 }
 
 /// Takes what the other takes. An error where memory ran out, and then some of it is taken.
@@ -103,7 +103,7 @@ fn merge_region(
             .map_err(MergeFault::refusal);
     }
     let runs = Runs::of_part(alloc, region)?;
-    cuts.insert_beside(id, runs, records)
+    cuts.insert(id, runs, records)
 }
 
 impl CutsByRecord {

@@ -88,6 +88,11 @@ fn put_word(words: &mut Vec<u32>, number: usize, word: u32) -> Result<(), AllocE
     ensures err { OnErr result ((n : ℕ) → slice_index words.new.items n
         ≡ slice_index words.old.items n) }
 {
+    if number == words.len() {
+        // It mostly comes next to the last one of its processor.
+        words.push(word)?;
+        return Ok(());
+    }
     lengthen(words, number)?;
     words[number] = word;
     Ok(())

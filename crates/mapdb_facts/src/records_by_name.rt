@@ -66,7 +66,7 @@ fn add_new(
         by_name.new.entries) }
     ensures err { OnErr result (by_name.new.entries ≡ by_name.old.entries) }
 {
-    by_name.insert(id, mapping)?;
+    by_name.insert(id, mapping, 0)?;
     *greatest = Some(greater(*greatest, id));
     Ok(())
 }

@@ -203,7 +203,7 @@ fn write_among(
     }
     let mut own = OwnChanges::new(alloc);
     own.write(alloc, before, first, end, was, change)?;
-    own_changes.insert(id, own)
+    own_changes.insert(id, own, 0)
 }
 
 /// Gives a change to the pages of a record, by number, from `first` on up to before `end`, over

@@ -48,7 +48,7 @@ fn put_for_record(
     }
     let mut own = OwnPlaces::new(alloc);
     own.insert(alloc, place)?;
-    records.insert(id, own)
+    records.insert(id, own, 0)
 }
 
 /// Puts a place among those of a space. An error where memory ran out.

@@ -20,6 +20,9 @@ some_suc (Some n) at e = (n, refl, cc)
 not_here : ◌≡◌ {A = Option ℕ} (Some 0) None → ⊥
 not_here e = cc
 
+some_is_not_none : {V : Type 0} (value : V) → Some value ≡ None → ⊥
+some_is_not_none value e = cc
+
 none_suc : (o : Option ℕ) → option_map suc o ≡ None → o ≡ None
 none_suc None e = refl
 none_suc (Some n) e = cc
@@ -59,6 +62,16 @@ found_nowhere (name ∷ names) (value ∷ values) id e = elim (cases_Bool (same_
   | inr other ↦
       found_nowhere names values id (none_suc (place_of id names) (sym (cond-false (same_id id name) (Some 0) (option_map suc (place_of id names)) other) ∙ e))
       ∙ sym (cond-false (same_id id name) (Some value) (lookup (same_id id) (zip names values)) other)
+]
+
+pub placed_nowhere : {V : Type 0} (names : List RecordId) (values : List V) (id : RecordId) → length names ≡ length values → lookup (same_id id) (zip names values) ≡ None → place_of id names ≡ None
+placed_nowhere [] values id even e = refl
+placed_nowhere (name ∷ names) [] id even e = absurd (omega (arith, even))
+placed_nowhere {V} (name ∷ names) (value ∷ values) id even e = elim (cases_Bool (same_id id name)) [
+  | inl same ↦ absurd (some_is_not_none value (sym (cond-true (same_id id name) (Some value) (lookup (same_id id) (zip names values)) same) ∙ e))
+  | inr other ↦
+      cond-false (same_id id name) (Some 0) (option_map suc (place_of id names)) other
+      ∙ ap (option_map suc) (placed_nowhere names values id (omega (arith, even)) (sym (cond-false (same_id id name) (Some value) (lookup (same_id id) (zip names values)) other) ∙ e))
 ]
 
 -- ---- a name more

@@ -23,6 +23,9 @@ returns-in-Some-clause-ok c =
 pub returns-clause-ok : goal.returns-clause-ok
 returns-clause-ok c =
     let absent = found_nowhere c.cuts.inside.names c.cuts.inside.values.items c.args.id (sym c.place.ensures ∙ c.in_default.is) in
-    on_ok_weaker c.insert_beside.result
-    (λ h. union_inserted c.args.cuts.now.entries c.insert_beside.new.self.entries c.args.id (starts_of c.args.region) c.in_ok-runs.runs (rw (← c.cuts.view_is) absent) h c.in_ok-runs.ensures)
-    c.insert_beside.ensures.ok
+    on_ok_weaker c.insert.result
+    (λ h. union_inserted c.args.cuts.now.entries c.insert.new.self.entries c.args.id (starts_of c.args.region) c.in_ok-runs.runs (rw (← c.cuts.view_is) absent) h c.in_ok-runs.ensures)
+    c.insert.ensures.ok
+
+pub insert-requires : goal.insert-requires
+insert-requires c = sym (rw (← c.cuts.view_is) (found_nowhere c.cuts.inside.names c.cuts.inside.values.items c.args.id (sym c.place.ensures ∙ c.in_default.is)))

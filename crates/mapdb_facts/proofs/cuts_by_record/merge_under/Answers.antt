@@ -40,3 +40,6 @@ returns-clause-ok c =
     on_ok_weaker c.insert.result
     (λ h. union_inserted c.args.cuts.now.entries c.insert.new.self.entries c.args.id c.args.theirs.now c.in_ok-copy.copy (rw (← c.cuts.view_is) absent) h c.in_ok-copy.ensures)
     c.insert.ensures.ok
+
+pub insert-requires : goal.insert-requires
+insert-requires c = sym (rw (← c.cuts.view_is) (found_nowhere c.cuts.inside.names c.cuts.inside.values.items c.args.id (sym c.place.ensures ∙ c.in_default.is)))

@@ -1,3 +1,5 @@
+use Rattle.std.proofs.Common.{sym, ◌∙◌}
+use Rattle.mapdb_facts.proofs.NameLemmas.NamesInOrder.{one_lookup}
 use Rattle.mapdb_facts.proofs.RecordLemmas.HeldInOrder.{put_greatest, put_union}
 use Rattle.mapdb_facts.proofs.records_by_name.add_new.Goals as goal
 
@@ -8,3 +10,6 @@ returns-clause-greatest c =
 
 pub returns-clause-ok : goal.returns-clause-ok
 returns-clause-ok c = put_union c.args.by_name.now c.insert.new.self c.args.id c.args.mapping c.in_ok-insert.ensures.ok c.requires.absent
+
+pub insert-requires : goal.insert-requires
+insert-requires c = sym (one_lookup c.args.by_name.now.entries c.args.id) ∙ c.requires.absent

@@ -47,3 +47,8 @@ returns c =
     (found_nowhere c.own_changes.inside.names c.own_changes.inside.values.items c.args.id (sym c.place.ensures ∙ c.in_default.is)
     ∙ ap (λ table. lookup (same_id c.args.id) table.entries) c.own_changes.view_is))
     c.insert.ensures.ok
+
+pub insert-requires : goal.insert-requires
+insert-requires c =
+    sym (found_nowhere c.own_changes.inside.names c.own_changes.inside.values.items c.args.id (sym c.place.ensures ∙ c.in_default.is)
+    ∙ ap (λ table. lookup (same_id c.args.id) table.entries) c.own_changes.view_is)

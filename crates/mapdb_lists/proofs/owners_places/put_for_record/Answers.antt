@@ -45,3 +45,8 @@ returns c =
           ∙ ap (λ (o : Option OwnPlaces). is_at (place_cmp c.args.place) k || stands (places_in o) k) found;
     })
     c.insert-3.ensures.ok
+
+pub insert-requires-3 : goal.insert-requires-3
+insert-requires-3 c =
+    sym (found_nowhere c.records.inside.names c.records.inside.values.items c.args.id (sym c.place.ensures ∙ c.in_default.is)
+    ∙ ap (λ table. lookup (same_id c.args.id) table.entries) c.records.view_is)
