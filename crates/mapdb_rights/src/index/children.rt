@@ -23,7 +23,7 @@ use std::alloc::AllocError;
 
 /// The pages of the child whose source pages are among these join what is stale.
 fn push_child(
-    stack: &mut SmallVec<Stale, 4>,
+    stack: &mut SmallVec<Stale, 1>,
     child: &Record,
     first: u64,
     end: u64,
@@ -53,7 +53,7 @@ fn push_child(
 
 /// The pages of a child, if it is one of this parent, join what is stale.
 fn push_held(
-    stack: &mut SmallVec<Stale, 4>,
+    stack: &mut SmallVec<Stale, 1>,
     facts: &Facts,
     parent: RecordId,
     id: RecordId,
@@ -78,7 +78,7 @@ fn push_held(
 /// The children of the parent that these places are the sources of: their pages that come from
 /// these pages join what is stale.
 fn push_sources(
-    stack: &mut SmallVec<Stale, 4>,
+    stack: &mut SmallVec<Stale, 1>,
     own: &OwnPlaces,
     facts: &Facts,
     parent: RecordId,
@@ -109,7 +109,7 @@ fn push_sources(
 /// what is stale.
 #[inline(always)]
 pub(crate) fn push_children(
-    stack: &mut SmallVec<Stale, 4>,
+    stack: &mut SmallVec<Stale, 1>,
     listed: &Places,
     facts: &Facts,
     parent: RecordId,
@@ -135,7 +135,7 @@ pub(crate) fn push_children(
 }
 
 /// The pages of a record's place join what is stale.
-fn push_place(stack: &mut SmallVec<Stale, 4>, facts: &Facts, id: RecordId) -> Result<(), AllocError>
+fn push_place(stack: &mut SmallVec<Stale, 1>, facts: &Facts, id: RecordId) -> Result<(), AllocError>
     ensures kept { OnOk result ((other : RecordId) (page : ℕ)
         → IsPending stack.old.items other page → IsPending stack.new.items other page) }
     ensures stale { OnOk result ((r : Record) → (state_of_facts facts.now).record_at id ≡ Some r
@@ -154,7 +154,7 @@ fn push_place(stack: &mut SmallVec<Stale, 4>, facts: &Facts, id: RecordId) -> Re
 
 /// The pages of all records that stand at these places join what is stale.
 fn push_places(
-    stack: &mut SmallVec<Stale, 4>,
+    stack: &mut SmallVec<Stale, 1>,
     own: &OwnPlaces,
     facts: &Facts,
 ) -> Result<(), AllocError>
@@ -173,7 +173,7 @@ fn push_places(
 
 /// The pages of all records into a space that have a right at some page join what is stale.
 pub(crate) fn push_space(
-    stack: &mut SmallVec<Stale, 4>,
+    stack: &mut SmallVec<Stale, 1>,
     live: &Places,
     facts: &Facts,
     space: Space,

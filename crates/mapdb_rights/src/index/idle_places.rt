@@ -23,7 +23,7 @@ use std::alloc::AllocError;
 
 /// Notes the name of a record, unless it has a right at some page. An error where memory ran out.
 pub(crate) fn note_without_rights(
-    idle: &mut SmallVec<RecordId, 4>,
+    idle: &mut SmallVec<RecordId, 1>,
     changes: &AllChanges,
     mapping: &Record,
 ) -> Result<(), AllocError>
@@ -43,7 +43,7 @@ pub(crate) fn note_without_rights(
 
 /// Notes the names of all held records without rights. An error where memory ran out.
 pub(crate) fn note_all_without_rights(
-    idle: &mut SmallVec<RecordId, 4>,
+    idle: &mut SmallVec<RecordId, 1>,
     changes: &AllChanges,
     facts: &Facts,
 ) -> Result<(), AllocError>

@@ -62,7 +62,7 @@ fn unlist_live(live: &mut Places, facts: &Facts, id: RecordId)
 #[inline(always)]
 pub(crate) fn follow_live(
     live: &mut Places,
-    idle: &mut SmallVec<RecordId, 4>,
+    idle: &mut SmallVec<RecordId, 1>,
     changes: &AllChanges,
     facts: &Facts,
     run: Stale,

@@ -34,8 +34,8 @@ use std::alloc::AllocError;
 fn settle_run(
     changes: &mut AllChanges,
     live: &mut Places,
-    idle: &mut SmallVec<RecordId, 4>,
-    stack: &mut SmallVec<Stale, 4>,
+    idle: &mut SmallVec<RecordId, 1>,
+    stack: &mut SmallVec<Stale, 1>,
     listed: &Places,
     facts: &Facts,
     run: Stale,
@@ -83,7 +83,7 @@ fn settle_run(
 
 /// Those of the pages that begin at the end of a run stay stale.
 #[inline(always)]
-fn keep_rest(stack: &mut SmallVec<Stale, 4>, stale: Stale, end: u64) -> Result<(), AllocError>
+fn keep_rest(stack: &mut SmallVec<Stale, 1>, stale: Stale, end: u64) -> Result<(), AllocError>
     ensures pending { OnOk result ((id : RecordId) (page : ℕ) → IsPending stack.old.items id page
         → IsPending stack.new.items id page) }
     ensures rest { OnOk result ((id : RecordId) (page : ℕ)
@@ -107,8 +107,8 @@ fn keep_rest(stack: &mut SmallVec<Stale, 4>, stale: Stale, end: u64) -> Result<(
 fn settle_next(
     changes: &mut AllChanges,
     live: &mut Places,
-    idle: &mut SmallVec<RecordId, 4>,
-    stack: &mut SmallVec<Stale, 4>,
+    idle: &mut SmallVec<RecordId, 1>,
+    stack: &mut SmallVec<Stale, 1>,
     listed: &Places,
     facts: &Facts,
     stale: Stale,
@@ -148,8 +148,8 @@ fn settle_next(
 pub fn settle(
     changes: &mut AllChanges,
     live: &mut Places,
-    idle: &mut SmallVec<RecordId, 4>,
-    stack: &mut SmallVec<Stale, 4>,
+    idle: &mut SmallVec<RecordId, 1>,
+    stack: &mut SmallVec<Stale, 1>,
     listed: &Places,
     facts: &Facts,
 ) -> Result<(), AllocError>

@@ -27,7 +27,7 @@ use std::alloc::{AllocError, Global};
 /// Adds the names of all places that meet the pages from `first` on up to before `end`, as they
 /// come.
 fn add_names_of(
-    names: &mut SmallVec<RecordId, 4>,
+    names: &mut SmallVec<RecordId, 1>,
     own: &OwnPlaces,
     first: u64,
     end: u64,
@@ -48,7 +48,7 @@ fn add_names_of(
 
 /// Adds the names of all entries of the owner that meet the pages of a place.
 pub(crate) fn add_names(
-    names: &mut SmallVec<RecordId, 4>,
+    names: &mut SmallVec<RecordId, 1>,
     listed: &Places,
     owner: Owner,
     part: &Fpage,
@@ -67,7 +67,7 @@ pub(crate) fn add_names(
 }
 
 /// Puts names in ascending order, each once.
-fn put_in_order(names: &mut SmallVec<RecordId, 4>)
+fn put_in_order(names: &mut SmallVec<RecordId, 1>)
     ensures ordered { IsStrictlySortedBy id_cmp names.new.items }
     ensures kept { (id : RecordId) → is_named names.old.items id ≡ true
         → is_named names.new.items id ≡ true }
@@ -128,7 +128,7 @@ fn named_sharing(
 /// for those whose names are not among these.
 pub(crate) fn all_sharing(
     alloc: Global,
-    names: &mut SmallVec<RecordId, 4>,
+    names: &mut SmallVec<RecordId, 1>,
     facts: &Facts,
     owner: Owner,
     part: &Fpage,
