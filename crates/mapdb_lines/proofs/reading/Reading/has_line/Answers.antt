@@ -7,6 +7,6 @@ use Rattle.mapdb_lines.proofs.reading.Reading.has_line.Goals as goal
 pub returns : goal.returns
 returns c =
     let s = c.args.self.now in
-    let len = c.len_before.result in
+    let len = c.len_of_line.result in
     let split : beyond 10 (ahead_of s) ≡ drop len (ahead_of s) = search rules in
     rw (split, c.deref.ensures.value) (is_filled_drop (ahead_of s) len)
