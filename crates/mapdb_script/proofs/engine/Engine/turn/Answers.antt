@@ -2,10 +2,10 @@ use Rattle.std.proofs.Common.{rules}
 use Rattle.mapdb_script.specs.Script.{turn}
 use Rattle.mapdb_script.proofs.engine.Engine.turn.Goals as goal
 
-pub returns-in_err-said : goal.returns-in_err-said
+pub returns-in-Err : goal.returns-in-Err
 unfolding turn
-returns-in_err-said c = search rules
+returns-in-Err c = search rules
 
-pub returns : goal.returns
+pub returns-in-Ok : goal.returns-in-Ok
 unfolding turn
-returns c = search rules
+returns-in-Ok c = search rules
