@@ -1,11 +1,10 @@
 -- What copies take from messages and from each other, and how that is told.
-use Rattle.std.proofs.Common.{◌≡◌, ◌≢◌, ℕ, ◌<◌, ◌⊎◌, inl, inr, Bool, true, false, ◌&&◌, cond, eq-eqb, List, length, get_or, refl, sym, subst, ap, arith}
+use Rattle.std.proofs.Common.{drop, ◌≡◌, ◌≢◌, ℕ, ◌<◌, ◌⊎◌, inl, inr, Bool, true, false, ◌&&◌, cond, eq-eqb, List, length, get_or, refl, sym, subst, ap, arith}
 use Rattle.std.proofs.lemmas.Bool.{lt-ltb, ltb-false}
 use Rattle.std.proofs.lemmas.Bool.Decides.{nat_tests}
 use Rattle.std.proofs.lemmas.Option.{slice_get_cases, slice_get_past, slice_get_within}
 use Rattle.std.specs.Prelude.{Option, Some, None, Result, Ok, Err, nat_lt, ◌==◌, slice_get}
 use Rattle.mapdb_facts.specs.declared.operations.Op.{Op}
-use Rattle.mapdb_replica.specs.Merging.{Merges}
 use Rattle.mapdb_replica.specs.Memory.{Enough}
 use Rattle.mapdb_replica.proofs.Calls.CallCases.{IsRefusedAs, TakeCases, take_cases}
 use Rattle.mapdb_replica.specs.Replica.{Log}
@@ -18,6 +17,7 @@ use Rattle.mapdb_cluster.specs.Run.{Happens, Loads, Move}
 use Rattle.mapdb_cluster.specs.declared.events.Event.TheVariants as event
 use Rattle.mapdb_cluster.specs.declared.events.Refusal.TheVariants as move_refusal
 use Rattle.mapdb_cluster.proofs.Steps.StepTells.{with_same}
+use Rattle.mapdb_script.specs.Marks.{TakesBehind}
 use Rattle.mapdb_script.specs.Accepting.{heard}
 use Rattle.mapdb_script.specs.Answering.{Answered, ScriptCluster, LineDone, Refused, happened, line_done, loaded}
 use Rattle.mapdb_script.specs.Reply.{taken_text}
@@ -46,15 +46,15 @@ module _ (c : ScriptCluster) (move : Move) where
   take_refusal_told (take.Bad place what) fault result same told = told_as (take.Bad place what) fault result (inl same) told
   take_refusal_told why fault result same told = told_as why fault result same told
 
-  -- what a copy was given, by a move by which it hears from others
-  taken_told : (at : ℕ) (copy new : Log) (batch : List Op) (outcome : Result (List Op) TakeFault) (taken : Result ℕ TakeFault) (result : Result Answer TurnFault)
-      → slice_get c.net.copies at ≡ Some copy → TakeCases batch outcome taken copy new → IsTakeTold taken result
+  -- what a copy was given, or a part of it that comes to the same, by a move by which it hears from others
+  taken_told : (at : ℕ) (copy new : Log) (batch part : List Op) (outcome : Result (List Op) TakeFault) (taken : Result ℕ TakeFault) (result : Result Answer TurnFault)
+      → slice_get c.net.copies at ≡ Some copy → TakeCases part outcome taken copy new → IsTakeTold taken result
       → Does result (with_copy c.net at new) (Ok (line_done c move (take_done c.net at copy batch Enough outcome)))
-  taken_told at copy new batch (Ok ops) (Ok count) result there takes told = rw (told, takes.0, takes.1) refl
-  taken_told at copy new batch (Ok ops) (Err (take.Memory n)) result there takes told = rw told tt
-  taken_told at copy new batch (Ok ops) (Err fault) result there takes told = absurd takes
-  taken_told at copy new batch (Err why) (Ok count) result there takes told = absurd takes
-  taken_told at copy new batch (Err why) (Err fault) result there takes told =
+  taken_told at copy new batch part (Ok ops) (Ok count) result there takes told = rw (told, takes.0, takes.1) refl
+  taken_told at copy new batch part (Ok ops) (Err (take.Memory n)) result there takes told = rw told tt
+  taken_told at copy new batch part (Ok ops) (Err fault) result there takes told = absurd takes
+  taken_told at copy new batch part (Err why) (Ok count) result there takes told = absurd takes
+  taken_told at copy new batch part (Err why) (Err fault) result there takes told =
       subst (λ (n : Net). Does result n (Ok (line_done c move (take_refused c.net Enough why)))) (sym (with_same c.net at copy new there takes.1))
       (take_refusal_told why fault result takes.0 told)
 
@@ -66,7 +66,7 @@ pub delivery_told : (c : ScriptCluster) (at message : ℕ) (copy new : Log) (bat
 delivery_told c at message copy new batch taken result within is sent takes told =
     let there = at_there c.net.copies at copy within is in
     let done : happened c (event.Deliver message at) ≡ Ok (line_done c (Happens (event.Deliver message at) Enough) (taken_at c.net Enough at batch copy)) = rw (there.0, there.1, sent) refl in
-    rw done (taken_told c (Happens (event.Deliver message at) Enough) at copy new batch (take_outcome copy.ops batch) taken result there.1 (take_cases batch (take_outcome copy.ops batch) taken copy new takes) told)
+    rw done (taken_told c (Happens (event.Deliver message at) Enough) at copy new batch batch (take_outcome copy.ops batch) taken result there.1 (take_cases batch (take_outcome copy.ops batch) taken copy new takes) told)
 
 -- a snapshot whose operations a copy was given
 pub load_told : (c : ScriptCluster) (at : ℕ) (copy new : Log) (said : Result (List Op) SnapshotFault) (batch : List Op) (taken : Result ℕ TakeFault)
@@ -76,7 +76,7 @@ pub load_told : (c : ScriptCluster) (at : ℕ) (copy new : Log) (said : Result (
 load_told c at copy new said batch taken result within is e takes told =
     let there = at_there c.net.copies at copy within is in
     let done : loaded c at said ≡ Ok (line_done c (Loads at batch Enough) (taken_at c.net Enough at batch copy)) = rw (e, there.0, there.1) refl in
-    rw done (taken_told c (Loads at batch Enough) at copy new batch (take_outcome copy.ops batch) taken result there.1 (take_cases batch (take_outcome copy.ops batch) taken copy new takes) told)
+    rw done (taken_told c (Loads at batch Enough) at copy new batch batch (take_outcome copy.ops batch) taken result there.1 (take_cases batch (take_outcome copy.ops batch) taken copy new takes) told)
 
 -- a snapshot for a processor that is not there
 pub load_nowhere : (c : ScriptCluster) (at : ℕ) (said : Result (List Op) SnapshotFault) → (nat_lt 0 (length c.net.copies) ≡ true) × (slice_get c.net.copies at ≡ None)
@@ -129,15 +129,16 @@ merge_same c into from result within e told = elim (slice_get_cases c.net.copies
   | inr past ↦ absurd (omega (arith, past.0))
 ]
 
--- a copy that was given all that another one holds
-pub merge_told : (c : ScriptCluster) (into from : ℕ) (copies : List Log) (taken : Result ℕ TakeFault) (result : Result Answer TurnFault)
-    → into ≢ from → Merges c.net.copies into from taken copies → IsTakeTold taken result
+-- a copy that was given what another one holds behind what it is known to hold of it
+pub merge_told : (c : ScriptCluster) (into from mark : ℕ) (copies : List Log) (taken : Result ℕ TakeFault) (result : Result Answer TurnFault)
+    → into ≢ from → TakesBehind c.net.copies into from mark taken copies → IsTakeTold taken result
     → Does result (record { copies = copies; messages = c.net.messages }) (happened c (event.Join into from))
-merge_told c into from copies taken result apart merges told =
-    let one = merges.one in
-    let other = merges.other in
-    let some = some_copy c.net.copies into one merges.there in
+merge_told c into from mark copies taken result apart behind told =
+    let one = behind.one in
+    let other = behind.other in
+    let some = some_copy c.net.copies into one behind.there in
     let differ : (into == from) ≡ false = grind (arith, nat_tests) in
     let done : happened c (event.Join into from) ≡ Ok (line_done c (Happens (event.Join into from) Enough) (taken_at c.net Enough into other.ops one)) =
-    rw (some, merges.there, merges.other_there, differ) refl in
-    rw (done, merges.kept) (taken_told c (Happens (event.Join into from) Enough) into one merges.after other.ops (take_outcome one.ops other.ops) taken result merges.there (take_cases other.ops (take_outcome one.ops other.ops) taken one merges.after merges.takes) told)
+    rw (some, behind.there, behind.other_there, differ) refl in
+    rw (done, behind.kept) (taken_told c (Happens (event.Join into from) Enough) into one behind.after other.ops (drop mark other.ops) (take_outcome one.ops other.ops) taken result behind.there
+    (take_cases (drop mark other.ops) (take_outcome one.ops other.ops) taken one behind.after behind.takes) told)

@@ -1,16 +1,20 @@
 //! What copies tell each other by the lines of a script, and how they compare.
 
 use crate::answering::{Reply, ScriptCluster};
+use crate::marks::{Mark, known_from, known_of, note, take_behind};
 use crate::replies::Refusal;
 use crate::turn_fault::TurnFault;
 use mapdb_cluster::send;
 use mapdb_lines::LineFault;
-use mapdb_replica::{GiveFault, merge_among};
+use mapdb_replica::GiveFault;
+use std::alloc::AllocError;
 
 impl ScriptCluster {
     ghost use Rattle.std.specs.Prelude.{◌≡◌, ◌<◌, ◌&&◌, IfOk, IfSome, OnOk, OnErr, Err, Some};
-    ghost use Rattle.std.specs.Prelude.{None, length, nat_lt, if◌then◌else◌};
+    ghost use Rattle.std.specs.Prelude.{None, length, nat_lt, slice_get, if◌then◌else◌};
     ghost use Rattle.mapdb_cluster.specs.declared.events.Event.TheVariants as event;
+    ghost use Rattle.mapdb_replica.specs.Agreement.{knows_all};
+    ghost use Rattle.mapdb_replica.specs.Replica.{Log};
     ghost use Rattle.mapdb_script.specs.Accepting.{Accepted};
     ghost use Rattle.mapdb_script.specs.Answering.{compared, covers_answer, happened, same_answer};
     ghost use Rattle.mapdb_script.specs.States.{Does, beside, net_of};
@@ -79,29 +83,57 @@ impl ScriptCluster {
         if into == from {
             return Reply::taken(Ok(0));
         }
-        let taken = merge_among(self.copies.as_mut_slice(), into, from);
-        Reply::taken(taken)
+        let mark = known_of(self.marks.as_slice(), into, from);
+        let taken = take_behind(self.copies.as_mut_slice(), into, from, mark);
+        let reply = Reply::taken(taken)?;
+        let _covers = self.covered(into, from)?;
+        Ok(reply)
+    }
+
+    /// Whether the copy at one place holds all that the one at another holds: what is known of them
+    /// is not looked up again, and what is found out now is noted.
+    fn covered(&mut self, at: usize, other: usize) -> Result<bool, AllocError>
+        requires at { at < length self.old.copies.items }
+        requires other { other < length self.old.copies.items }
+        ensures kept { net_of self.new ≡ net_of self.old }
+        ensures covers { IfOk result (λ covers. (one : Log) × (two : Log)
+            × (slice_get (net_of self.old).copies at ≡ Some one)
+            × (slice_get (net_of self.old).copies other ≡ Some two)
+            × (covers ≡ knows_all one.ops two.ops)) }
+    {
+        let mark = known_of(self.marks.as_slice(), at, other);
+        let ops = self.copies[other].ops();
+        let known = known_from(&self.copies[at], ops, mark);
+        let covers = known == ops.len();
+        note(&mut self.marks, Mark { at, other, known })?;
+        Ok(covers)
     }
 
     /// Asks whether the copies of two processors hold the same.
-    pub(crate) fn same(&self, at: u8, other: u8) -> Result<Reply, TurnFault>
-        ensures { (accepted : Accepted) → Does result (net_of self.now)
-            (compared (beside self.now accepted) at other same_answer) }
+    pub(crate) fn same(&mut self, at: u8, other: u8) -> Result<Reply, TurnFault>
+        ensures { (accepted : Accepted) → Does result (net_of self.new)
+            (compared (beside self.old accepted) at other same_answer) }
     {
         let Some((at, other)) = self.places(at, other)? else {
             return Ok(Reply::Refused(Refusal::NoProcessor));
         };
-        Ok(Reply::Same(self.copies[at].same(&self.copies[other])))
+        let covers = self.covered(at, other)?;
+        if !covers {
+            return Ok(Reply::Same(false));
+        }
+        let covered = self.covered(other, at)?;
+        Ok(Reply::Same(covered))
     }
 
     /// Asks whether a processor's copy holds all that another one's holds.
-    pub(crate) fn covers(&self, at: u8, other: u8) -> Result<Reply, TurnFault>
-        ensures { (accepted : Accepted) → Does result (net_of self.now)
-            (compared (beside self.now accepted) at other covers_answer) }
+    pub(crate) fn covers(&mut self, at: u8, other: u8) -> Result<Reply, TurnFault>
+        ensures { (accepted : Accepted) → Does result (net_of self.new)
+            (compared (beside self.old accepted) at other covers_answer) }
     {
         let Some((at, other)) = self.places(at, other)? else {
             return Ok(Reply::Refused(Refusal::NoProcessor));
         };
-        Ok(Reply::Covers(self.copies[at].covers(&self.copies[other])))
+        let covers = self.covered(at, other)?;
+        Ok(Reply::Covers(covers))
     }
 }

@@ -1,6 +1,8 @@
 use Rattle.std.proofs.Common.{ap, refl}
 use Rattle.mapdb_script.specs.States.{beside, seen_of}
-use Rattle.mapdb_script.proofs.AnsweringLemmas.{at_nowhere, command_accepted, command_nowhere, command_refused}
+use Rattle.mapdb_script.proofs.AnsweringLemmas.{at_nowhere, at_there, command_accepted, command_nowhere, command_refused}
+use Rattle.mapdb_replica.specs.Commands.{command_outcome}
+use Rattle.mapdb_script.proofs.MarkLemmas.{issues_grow, marks_stay}
 use Rattle.mapdb_script.proofs.answering.ScriptCluster.command.Goals as goal
 
 pub returns-in_default : goal.returns-in_default
@@ -21,3 +23,13 @@ returns-in-Ok c accepted =
     rw (← there.0)
     (ap seen_of (command_accepted (beside c.args.self.now accepted) c.in-Some.at c.index_mut.result.now c.apply.new.self
     c.args.command.now c.in-Ok.applied there.1 c.index_mut.ensures.value c.in-Ok.ensures.applies))
+
+pub invariant_of-self : goal.invariant_of-self
+invariant_of-self c =
+    let there = rw c.in-Some.is at c.in_ok-at.ensures.there in
+    let copies = c.args.self.now.copies.items in
+    let old = c.index_mut.result.now in
+    record {
+      marked = marks_stay copies c.args.self.now.marks.items c.in-Some.at old c.apply.new.self (at_there copies c.in-Some.at old there.1 c.index_mut.ensures.value).1
+          (issues_grow (command_outcome old c.args.command.now) c.apply.result old c.apply.new.self c.apply.ensures.applies.1) c.args.self.now.marked;
+    }
