@@ -17,7 +17,8 @@ use Rattle.mapdb_cluster.specs.Run.{Happens, Loads, Move}
 use Rattle.mapdb_cluster.specs.declared.events.Event.TheVariants as event
 use Rattle.mapdb_cluster.specs.declared.events.Refusal.TheVariants as move_refusal
 use Rattle.mapdb_cluster.proofs.Steps.StepTells.{with_same}
-use Rattle.mapdb_script.specs.Marks.{TakesBehind}
+use Rattle.mapdb_script.specs.Sendings.{TakesPart, TakesSent, part_of}
+use Rattle.mapdb_script.specs.declared.sendings.Sending.{Sending}
 use Rattle.mapdb_script.specs.Accepting.{heard}
 use Rattle.mapdb_script.specs.Answering.{Answered, ScriptCluster, LineDone, Refused, happened, line_done, loaded}
 use Rattle.mapdb_script.specs.Reply.{taken_text}
@@ -58,15 +59,15 @@ module _ (c : ScriptCluster) (move : Move) where
       subst (λ (n : Net). Does result n (Ok (line_done c move (take_refused c.net Enough why)))) (sym (with_same c.net at copy new there takes.1))
       (take_refusal_told why fault result takes.0 told)
 
--- a message that came to a copy
-pub delivery_told : (c : ScriptCluster) (at message : ℕ) (copy new : Log) (batch : List Op) (taken : Result ℕ TakeFault) (result : Result Answer TurnFault)
-    → at < length c.net.copies → copy ≡ get_or c.net.copies at copy → slice_get c.net.messages message ≡ Some batch
-    → Takes batch (take_outcome copy.ops batch) taken copy new → IsTakeTold taken result
+-- a message that came to a copy, of which it took the whole or a part that comes to the same
+pub delivery_told : (c : ScriptCluster) (at message : ℕ) (copy new : Log) (batch part : List Op) (taken : Result ℕ TakeFault) (result : Result Answer TurnFault)
+    → slice_get c.net.copies at ≡ Some copy → slice_get c.net.messages message ≡ Some batch
+    → Takes part (take_outcome copy.ops batch) taken copy new → IsTakeTold taken result
     → Does result (with_copy c.net at new) (happened c (event.Deliver message at))
-delivery_told c at message copy new batch taken result within is sent takes told =
-    let there = at_there c.net.copies at copy within is in
-    let done : happened c (event.Deliver message at) ≡ Ok (line_done c (Happens (event.Deliver message at) Enough) (taken_at c.net Enough at batch copy)) = rw (there.0, there.1, sent) refl in
-    rw done (taken_told c (Happens (event.Deliver message at) Enough) at copy new batch batch (take_outcome copy.ops batch) taken result there.1 (take_cases batch (take_outcome copy.ops batch) taken copy new takes) told)
+delivery_told c at message copy new batch part taken result there sent takes told =
+    let some = some_copy c.net.copies at copy there in
+    let done : happened c (event.Deliver message at) ≡ Ok (line_done c (Happens (event.Deliver message at) Enough) (taken_at c.net Enough at batch copy)) = rw (some, there, sent) refl in
+    rw done (taken_told c (Happens (event.Deliver message at) Enough) at copy new batch part (take_outcome copy.ops batch) taken result there (take_cases part (take_outcome copy.ops batch) taken copy new takes) told)
 
 -- a snapshot whose operations a copy was given
 pub load_told : (c : ScriptCluster) (at : ℕ) (copy new : Log) (said : Result (List Op) SnapshotFault) (batch : List Op) (taken : Result ℕ TakeFault)
@@ -129,16 +130,17 @@ merge_same c into from result within e told = elim (slice_get_cases c.net.copies
   | inr past ↦ absurd (omega (arith, past.0))
 ]
 
--- a copy that was given what another one holds behind what it is known to hold of it
-pub merge_told : (c : ScriptCluster) (into from mark : ℕ) (copies : List Log) (taken : Result ℕ TakeFault) (result : Result Answer TurnFault)
-    → into ≢ from → TakesBehind c.net.copies into from mark taken copies → IsTakeTold taken result
-    → Does result (record { copies = copies; messages = c.net.messages }) (happened c (event.Join into from))
-merge_told c into from mark copies taken result apart behind told =
-    let one = behind.one in
-    let other = behind.other in
-    let some = some_copy c.net.copies into one behind.there in
-    let differ : (into == from) ≡ false = grind (arith, nat_tests) in
-    let done : happened c (event.Join into from) ≡ Ok (line_done c (Happens (event.Join into from) Enough) (taken_at c.net Enough into other.ops one)) =
-    rw (some, behind.there, behind.other_there, differ) refl in
-    rw (done, behind.kept) (taken_told c (Happens (event.Join into from) Enough) into one behind.after other.ops (drop mark other.ops) (take_outcome one.ops other.ops) taken result behind.there
-    (take_cases (drop mark other.ops) (take_outcome one.ops other.ops) taken one behind.after behind.takes) told)
+-- a copy that was given all that another one holds, or what is behind so many first ones of it, which it holds
+pub merge_told : (c : ScriptCluster) (into : ℕ) (all : Sending) (copies : List Log) (taken : Result ℕ TakeFault) (result : Result Answer TurnFault)
+    → into ≢ all.sender → (sent : TakesSent c.net.copies into all taken copies) → part_of all.first all.end sent.other.ops ≡ sent.other.ops → IsTakeTold taken result
+    → Does result (record { copies = copies; messages = c.net.messages }) (happened c (event.Join into all.sender))
+merge_told c into all copies taken result apart sent whole told =
+    let one = sent.one in
+    let other = sent.other in
+    let some = some_copy c.net.copies into one sent.there in
+    let differ : (into == all.sender) ≡ false = grind (arith, nat_tests) in
+    let done : happened c (event.Join into all.sender) ≡ Ok (line_done c (Happens (event.Join into all.sender) Enough) (taken_at c.net Enough into other.ops one)) =
+    rw (some, sent.there, sent.other_there, differ) refl in
+    let takes : TakesPart sent.known other.ops taken one sent.after = subst (λ (ops : List Op). TakesPart sent.known ops taken one sent.after) whole sent.takes in
+    rw (done, sent.kept) (taken_told c (Happens (event.Join into all.sender) Enough) into one sent.after other.ops (drop sent.known other.ops) (take_outcome one.ops other.ops) taken result sent.there
+    (take_cases (drop sent.known other.ops) (take_outcome one.ops other.ops) taken one sent.after takes) told)

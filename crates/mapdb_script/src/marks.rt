@@ -1,13 +1,13 @@
 //! How much of each other's lists copies are known to hold. Lists only grow, and what is held stays
 //! held: so what was found out of two copies stays true, and is not looked up again.
 
-ghost use Rattle.std.specs.Prelude.{◌≡◌, ◌≢◌, ◌==◌, ◌<◌, All, List, Some, length, slice_get};
+ghost use Rattle.std.specs.Prelude.{◌≡◌, ◌==◌, All, List, length};
 ghost use Rattle.mapdb_replica.specs.Agreement.{knows_all};
 ghost use Rattle.mapdb_replica.specs.Replica.{Log};
-ghost use Rattle.mapdb_script.specs.Marks.{HoldsFirst, IsMark, TakesBehind, TakesPart, mark_at};
+ghost use Rattle.mapdb_script.specs.Marks.{HoldsFirst, IsMark, mark_at};
 
 use mapdb_facts::Op;
-use mapdb_replica::{Replica, TakeFault};
+use mapdb_replica::Replica;
 use std::alloc::AllocError;
 
 /// A copy is known to hold so many first operations of another one's list.
@@ -65,40 +65,4 @@ pub(crate) fn known_from(copy: &Replica, ops: &[Op], mark: usize) -> usize
         known += 1;
     }
     known
-}
-
-/// A copy takes what another one holds behind so many first operations, which it holds: that comes
-/// to what taking all of them does.
-fn take_part(copy: &mut Replica, other: &Replica, mark: usize) -> Result<u32, TakeFault>
-    requires { HoldsFirst copy.old.ops mark other.now.ops }
-    ensures { TakesPart mark other.now.ops result copy.old copy.new }
-{
-    // The proof needs that what the copy holds is sound, which is known where its list is.
-    let _held = copy.ops();
-    let (_known, part) = other.ops().split_at(mark);
-    copy.take(part)
-}
-
-/// One of the copies takes what another one holds behind so many first operations, which it holds.
-/// The others stay.
-pub(crate) fn take_behind(
-    copies: &mut [Replica],
-    into: usize,
-    from: usize,
-    mark: usize,
-) -> Result<u32, TakeFault>
-    requires into { into < length copies.old }
-    requires from { from < length copies.old }
-    requires apart { into ≢ from }
-    requires held { (one other : Log) → slice_get copies.old into ≡ Some one
-        → slice_get copies.old from ≡ Some other → HoldsFirst one.ops mark other.ops }
-    ensures { TakesBehind copies.old into from mark result copies.new }
-{
-    if into < from {
-        let (front, back) = copies.split_at_mut(from);
-        take_part(&mut front[into], &back[0], mark)
-    } else {
-        let (front, back) = copies.split_at_mut(into);
-        take_part(&mut back[0], &front[from], mark)
-    }
 }

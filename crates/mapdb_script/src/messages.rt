@@ -1,22 +1,24 @@
 //! What copies tell each other by the lines of a script, and how they compare.
 
 use crate::answering::{Reply, ScriptCluster};
-use crate::marks::{Mark, known_from, known_of, note, take_behind};
+use crate::marks::{Mark, known_from, known_of, note};
 use crate::replies::Refusal;
+use crate::sendings::{Sending, take_sending};
 use crate::turn_fault::TurnFault;
-use mapdb_cluster::send;
+use mapdb_cluster::SentMessage;
 use mapdb_lines::LineFault;
-use mapdb_replica::GiveFault;
 use std::alloc::AllocError;
 
 impl ScriptCluster {
     ghost use Rattle.std.specs.Prelude.{◌≡◌, ◌<◌, ◌&&◌, IfOk, IfSome, OnOk, OnErr, Err, Some};
     ghost use Rattle.std.specs.Prelude.{None, length, nat_lt, slice_get, if◌then◌else◌};
+    ghost use Rattle.mapdb_cluster.specs.Net.{with_message};
     ghost use Rattle.mapdb_cluster.specs.declared.events.Event.TheVariants as event;
     ghost use Rattle.mapdb_replica.specs.Agreement.{knows_all};
     ghost use Rattle.mapdb_replica.specs.Replica.{Log};
     ghost use Rattle.mapdb_script.specs.Accepting.{Accepted};
     ghost use Rattle.mapdb_script.specs.Answering.{compared, covers_answer, happened, same_answer};
+    ghost use Rattle.mapdb_script.specs.Sendings.{IsSent, message_of};
     ghost use Rattle.mapdb_script.specs.States.{Does, beside, net_of};
 
     /// The places of two processors' copies, if the cluster has both.
@@ -41,6 +43,16 @@ impl ScriptCluster {
         Ok(Some((at, other)))
     }
 
+    /// Keeps a message behind those that were sent before. An error where memory ran out.
+    fn post(&mut self, sending: Sending) -> Result<(), AllocError>
+        requires { IsSent self.old.copies.items sending }
+        ensures { OnOk result (net_of self.new ≡ with_message (net_of self.old)
+            (message_of self.old.copies.items sending)) }
+    {
+        self.messages.push(sending)?;
+        Ok(())
+    }
+
     /// Sends a message with the operations of a processor's copy, from the mark `first` on and up
     /// to before the mark `end`.
     pub(crate) fn send(&mut self, at: u8, first: u32, end: u32) -> Result<Reply, TurnFault>
@@ -50,11 +62,20 @@ impl ScriptCluster {
         let Some(at) = self.place(at)? else {
             return Ok(Reply::Refused(Refusal::NoProcessor));
         };
-        match send(&self.copies[at], first, end, &mut self.messages) {
-            Ok(sent) => Ok(Reply::Sent(sent)),
-            Err(GiveFault::BadMark) => Ok(Reply::Refused(Refusal::BadMark)),
-            Err(GiveFault::Memory) => Err(TurnFault::Memory),
+        let (first, end) = (first as usize, end as usize);
+        if first > end || end > self.copies[at].ops().len() {
+            return Ok(Reply::Refused(Refusal::BadMark));
         }
+        let sent = SentMessage {
+            message: self.messages.len() as u64,
+            count: (end - first) as u32,
+        };
+        self.post(Sending {
+            sender: at,
+            first,
+            end,
+        })?;
+        Ok(Reply::Sent(sent))
     }
 
     /// Brings a message to a processor, whose copy takes its operations.
@@ -65,10 +86,11 @@ impl ScriptCluster {
         let Some(at) = self.place(at)? else {
             return Ok(Reply::Refused(Refusal::NoProcessor));
         };
-        let Some(message) = self.messages.as_slice().get(message as usize) else {
+        let Some(&sending) = self.messages.as_slice().get(message as usize) else {
             return Ok(Reply::Refused(Refusal::NoMessage));
         };
-        let taken = self.copies[at].take(message.ops());
+        let mark = known_of(self.marks.as_slice(), at, sending.sender);
+        let taken = take_sending(self.copies.as_mut_slice(), at, sending, mark);
         Reply::taken(taken)
     }
 
@@ -83,8 +105,13 @@ impl ScriptCluster {
         if into == from {
             return Reply::taken(Ok(0));
         }
+        let all = Sending {
+            sender: from,
+            first: 0,
+            end: self.copies[from].ops().len(),
+        };
         let mark = known_of(self.marks.as_slice(), into, from);
-        let taken = take_behind(self.copies.as_mut_slice(), into, from, mark);
+        let taken = take_sending(self.copies.as_mut_slice(), into, all, mark);
         let reply = Reply::taken(taken)?;
         let _covers = self.covered(into, from)?;
         Ok(reply)

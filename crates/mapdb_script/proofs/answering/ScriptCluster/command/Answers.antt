@@ -3,6 +3,7 @@ use Rattle.mapdb_script.specs.States.{beside, seen_of}
 use Rattle.mapdb_script.proofs.AnsweringLemmas.{at_nowhere, at_there, command_accepted, command_nowhere, command_refused}
 use Rattle.mapdb_replica.specs.Commands.{command_outcome}
 use Rattle.mapdb_script.proofs.MarkLemmas.{issues_grow, marks_stay}
+use Rattle.mapdb_script.proofs.SendingLemmas.{messages_stay, sent_stay}
 use Rattle.mapdb_script.proofs.answering.ScriptCluster.command.Goals as goal
 
 pub returns-in_default : goal.returns-in_default
@@ -14,13 +15,21 @@ returns-in_default c accepted =
 pub returns-in-Err : goal.returns-in-Err
 returns-in-Err c accepted =
     let there = rw c.in-Some.is at c.in_ok-at.ensures.there in
-    rw (← there.0) (command_refused (beside c.args.self.now accepted) c.in-Some.at c.index_mut.result.now c.apply.new.self
+    let copies = c.args.self.now.copies.items in
+    let old = c.index_mut.result.now in
+    let found = (at_there copies c.in-Some.at old there.1 c.index_mut.ensures.value).1 in
+    let grows = issues_grow (command_outcome old c.args.command.now) c.apply.result old c.apply.new.self c.apply.ensures.applies.1 in
+    rw (← there.0, messages_stay copies c.in-Some.at old c.apply.new.self found grows c.args.self.now.messages.items c.args.self.now.sent) (command_refused (beside c.args.self.now accepted) c.in-Some.at c.index_mut.result.now c.apply.new.self
     c.args.command.now c.in-Err.fault _ there.1 c.index_mut.ensures.value c.in-Err.ensures.applies c.refused.ensures)
 
 pub returns-in-Ok : goal.returns-in-Ok
 returns-in-Ok c accepted =
     let there = rw c.in-Some.is at c.in_ok-at.ensures.there in
-    rw (← there.0)
+    let copies = c.args.self.now.copies.items in
+    let old = c.index_mut.result.now in
+    let found = (at_there copies c.in-Some.at old there.1 c.index_mut.ensures.value).1 in
+    let grows = issues_grow (command_outcome old c.args.command.now) c.apply.result old c.apply.new.self c.apply.ensures.applies.1 in
+    rw (← there.0, messages_stay copies c.in-Some.at old c.apply.new.self found grows c.args.self.now.messages.items c.args.self.now.sent)
     (ap seen_of (command_accepted (beside c.args.self.now accepted) c.in-Some.at c.index_mut.result.now c.apply.new.self
     c.args.command.now c.in-Ok.applied there.1 c.index_mut.ensures.value c.in-Ok.ensures.applies))
 
@@ -29,7 +38,9 @@ invariant_of-self c =
     let there = rw c.in-Some.is at c.in_ok-at.ensures.there in
     let copies = c.args.self.now.copies.items in
     let old = c.index_mut.result.now in
+    let found = (at_there copies c.in-Some.at old there.1 c.index_mut.ensures.value).1 in
+    let grows = issues_grow (command_outcome old c.args.command.now) c.apply.result old c.apply.new.self c.apply.ensures.applies.1 in
     record {
-      marked = marks_stay copies c.args.self.now.marks.items c.in-Some.at old c.apply.new.self (at_there copies c.in-Some.at old there.1 c.index_mut.ensures.value).1
-          (issues_grow (command_outcome old c.args.command.now) c.apply.result old c.apply.new.self c.apply.ensures.applies.1) c.args.self.now.marked;
+      marked = marks_stay copies c.args.self.now.marks.items c.in-Some.at old c.apply.new.self found grows c.args.self.now.marked;
+      sent = sent_stay copies c.in-Some.at old c.apply.new.self found grows c.args.self.now.messages.items c.args.self.now.sent;
     }

@@ -16,7 +16,7 @@ invariant_of-self c =
     let one_there = (at_there copies c.args.at c.index-2.result.now c.requires.at c.index-2.ensures).1 in
     let two_there = (at_there copies c.args.other c.index.result.now c.requires.other c.index.ensures).1 in
     let first = rw (c.ops-ops.ensures.ops) at c.known_from-known.ensures.known in
-    record { marked = c.note.ensures copies c.args.self.now.marked (mark_found copies c.args.at c.args.other c.known_from-known.result c.index-2.result.now c.index.result.now one_there two_there first) }
+    record { sent = c.args.self.now.sent; marked = c.note.ensures copies c.args.self.now.marked (mark_found copies c.args.at c.args.other c.known_from-known.result c.index-2.result.now c.index.result.now one_there two_there first) }
 
 pub returns-clause-covers : goal.returns-clause-covers
 returns-clause-covers c =

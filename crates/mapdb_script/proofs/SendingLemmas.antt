@@ -1,0 +1,257 @@
+-- What messages have stays what it is, and to take what is behind a mark comes to what taking all does.
+use Rattle.std.proofs.Common.{◌≡◌, ℕ, ◌++◌, ◌∷◌, ◌<◌, ◌≤◌, ◌+◌, ◌-◌, All, List, [], ap, arith, drop, get_or, inl, inr, length, refl, slice_get, subst, suc, sym, take, true, zero, ◌∙◌}
+use Rattle.std.proofs.Math.ListN.{get_or-append, length-set}
+use Rattle.std.proofs.Math.Seq.{get_or-append_seam, set-append_seam}
+use Rattle.std.specs.List.{filter}
+use Rattle.std.specs.Prelude.{Result, Some, count_by, not, slice_set, ◌==◌}
+use Rattle.std.proofs.lemmas.Bool.{and_from, and_parts, cases_Bool, cond-false, eqb-true, not-true}
+use Rattle.std.proofs.lemmas.List.{drop_all, drop-append-le, length-append, length-drop, length-take-le, map-append, set-append_left, take-append-drop, take-append-le, take-take}
+use Rattle.std.proofs.Math.Seq.{take-length}
+use Rattle.std.proofs.lemmas.List.Elements.{All-head, All-tail, All-weaker, filter-append}
+use Rattle.std.proofs.lemmas.List.Sums.{length-filter}
+use Rattle.std.proofs.lemmas.Option.{slice_get_read}
+use Rattle.mapdb_facts.specs.Adding.{is_new}
+use Rattle.mapdb_facts.specs.State.{IsSound, state_of}
+use Rattle.mapdb_facts.specs.WellFormed.{all_formed, is_formed}
+use Rattle.mapdb_facts.specs.declared.operations.Op.{Op}
+use Rattle.mapdb_replica.specs.Agreement.{knows_all}
+use Rattle.mapdb_replica.specs.Replica.{Log, news}
+use Rattle.mapdb_replica.specs.Taking.{first_bad, least_clash, take_outcome}
+use Rattle.mapdb_replica.specs.declared.faults.TakeFault.{TakeFault}
+use Rattle.mapdb_cluster.proofs.Steps.Slots.{one_there, set_here, set_other}
+use Rattle.mapdb_replica.proofs.Copies.Bounding.{formed_good}
+use Rattle.mapdb_replica.proofs.News.UnheldClashes.{least_clash-unheld}
+use Rattle.mapdb_replica.proofs.News.UnheldTurns.{news-unheld}
+use Rattle.mapdb_replica.proofs.Copies.Agreeing.{covers_known}
+use Rattle.mapdb_script.specs.Marks.{HoldsFirst}
+use Rattle.mapdb_script.specs.Sendings.{IsSent, TakesPart, TakesSent, known_among, message_of, messages_of, part_of, sent_by}
+use Rattle.mapdb_script.specs.declared.sendings.Sending.{Sending}
+use Rattle.mapdb_script.proofs.MarkLemmas.{Grows}
+
+-- nothing is left of what is held
+none_left : (held ops : List Op) → knows_all held ops ≡ true → filter (is_new (state_of held)) ops ≡ []
+none_left held [] known = refl
+none_left held (op ∷ ops) known =
+    let parts = and_parts (not (is_new (state_of held) op)) (knows_all held ops) known in
+    cond-false (is_new (state_of held) op) (op ∷ filter (is_new (state_of held)) ops) (filter (is_new (state_of held)) ops) (not-true (is_new (state_of held) op) parts.0)
+    ∙ none_left held ops parts.1
+
+formed_behind : (k : ℕ) (ops : List Op) → all_formed ops ≡ true → all_formed (drop k ops) ≡ true
+formed_behind zero ops formed = formed
+formed_behind (suc k) [] formed = refl
+formed_behind (suc k) (op ∷ ops) formed = formed_behind k ops (and_parts (is_formed op) (all_formed ops) formed).1
+
+module _ (held ops : List Op) (mark : ℕ) (first : HoldsFirst held mark ops) where
+  -- what is left of all is left of what is behind the mark
+  left_behind : filter (is_new (state_of held)) ops ≡ filter (is_new (state_of held)) (drop mark ops)
+  left_behind =
+      ap (filter (is_new (state_of held))) (sym (take-append-drop mark ops))
+      ∙ filter-append (is_new (state_of held)) (take mark ops) (drop mark ops)
+      ∙ ap (λ (xs : List Op). xs ++ filter (is_new (state_of held)) (drop mark ops)) (none_left held (take mark ops) first.known)
+
+  count_behind : count_by (is_new (state_of held)) ops ≡ count_by (is_new (state_of held)) (drop mark ops)
+  count_behind = sym (length-filter (is_new (state_of held)) ops) ∙ ap (λ (xs : List Op). length xs) left_behind ∙ length-filter (is_new (state_of held)) (drop mark ops)
+
+  pub outcome_behind : IsSound held → all_formed ops ≡ true → take_outcome held (drop mark ops) ≡ take_outcome held ops
+  outcome_behind sound formed =
+      let bad : first_bad 0 (drop mark ops) ≡ first_bad 0 ops = formed_good 0 (drop mark ops) (formed_behind mark ops formed) ∙ sym (formed_good 0 ops formed) in
+      let clash : least_clash held (drop mark ops) ≡ least_clash held ops =
+      sym (least_clash-unheld held (drop mark ops) sound) ∙ ap (least_clash held) (sym left_behind) ∙ least_clash-unheld held ops sound in
+      let turns : news (state_of held) (drop mark ops) ≡ news (state_of held) ops =
+      sym (news-unheld (state_of held) (drop mark ops)) ∙ ap (news (state_of held)) (sym left_behind) ∙ news-unheld (state_of held) ops in
+      rw (bad, clash, turns, ← count_behind) refl
+
+-- ---- parts of lists
+
+known_front : (held ops : List Op) (k n : ℕ) → k ≤ n → knows_all held (take n ops) ≡ true → knows_all held (take k ops) ≡ true
+known_front held ops zero n less known = refl
+known_front held [] (suc k) n less known = refl
+known_front held (op ∷ ops) (suc k) zero less known = absurd (omega (arith, less))
+known_front held (op ∷ ops) (suc k) (suc n) less known =
+    let parts = and_parts (not (is_new (state_of held) op)) (knows_all held (take n ops)) known in
+    and_from (not (is_new (state_of held) op)) (knows_all held (take k ops)) parts.0 (known_front held ops k n (omega (arith, less)) parts.1)
+
+known_inside : (held ops : List Op) (f k n : ℕ) → f + k ≤ n → knows_all held (take n ops) ≡ true → knows_all held (take k (drop f ops)) ≡ true
+known_inside held ops zero k n less known = known_front held ops k n (omega (arith, less)) known
+known_inside held [] (suc f) zero n less known = refl
+known_inside held [] (suc f) (suc k) n less known = refl
+known_inside held (op ∷ ops) (suc f) k zero less known = absurd (omega (arith, less))
+known_inside held (op ∷ ops) (suc f) k (suc n) less known =
+    known_inside held ops f k n (omega (arith, less)) (and_parts (not (is_new (state_of held) op)) (knows_all held (take n ops)) known).1
+
+formed_front : (k : ℕ) (ops : List Op) → all_formed ops ≡ true → all_formed (take k ops) ≡ true
+formed_front zero ops formed = refl
+formed_front (suc k) [] formed = refl
+formed_front (suc k) (op ∷ ops) formed =
+    let parts = and_parts (is_formed op) (all_formed ops) formed in and_from (is_formed op) (all_formed (take k ops)) parts.0 (formed_front k ops parts.1)
+
+pub formed_part : (first end : ℕ) (ops : List Op) → all_formed ops ≡ true → all_formed (part_of first end ops) ≡ true
+formed_part first end ops formed = formed_front (end - first) (drop first ops) (formed_behind first ops formed)
+
+part_length : (first end : ℕ) (ops : List Op) → first ≤ end → end ≤ length ops → length (part_of first end ops) ≡ end - first
+part_length first end ops ordered within = length-take-le (end - first) (drop first ops) (omega (arith, length-drop first ops))
+
+-- the part that is all of a list
+pub part_all : (ops : List Op) → part_of 0 (length ops) ops ≡ ops
+part_all ops = let all : length ops - 0 ≡ length ops = omega arith in ap (λ (k : ℕ). take k ops) all ∙ take-length ops
+
+-- what is held of a sender's list is held of a part of it
+pub known_part : (held ops : List Op) (sending : Sending) (mark : ℕ) → sending.first ≤ sending.end → sending.end ≤ length ops → HoldsFirst held mark ops
+    → HoldsFirst held (known_among sending mark) (part_of sending.first sending.end ops)
+known_part held ops sending mark ordered within first =
+    let k = known_among sending mark in
+    let few : k ≤ sending.end - sending.first = omega arith in
+    record {
+      within = rw (part_length sending.first sending.end ops ordered within) few;
+      known = rw (take-take k (sending.end - sending.first) (drop sending.first ops) few) (known_of_part k (λ some. omega (arith, some)));
+    }
+  where
+    known_of_part : (k : ℕ) → (0 < k → sending.first + k ≤ mark) → knows_all held (take k (drop sending.first ops)) ≡ true
+    known_of_part zero some = refl
+    known_of_part (suc k) some = known_inside held ops sending.first (suc k) mark (some (omega arith)) first.known
+
+-- a copy holds each part of its own list
+own_part : (held : List Op) (sending : Sending) → IsSound held → sending.first ≤ sending.end → sending.end ≤ length held
+    → HoldsFirst held (sending.end - sending.first) (part_of sending.first sending.end held)
+own_part held sending sound ordered within = record {
+  within = rw (part_length sending.first sending.end held ordered within) (omega arith);
+  known = rw (take-take (sending.end - sending.first) (sending.end - sending.first) (drop sending.first held) (omega arith))
+      (known_inside held held sending.first (sending.end - sending.first) (length held) (omega (arith, ordered, within)) (rw (take-length held) (covers_known held held sound (λ atom has. has))));
+}
+
+-- nothing of it is left
+pub own_left : (held : List Op) (sending : Sending) → sending.first ≤ sending.end → sending.end ≤ length held
+    → drop (sending.end - sending.first) (part_of sending.first sending.end held) ≡ []
+own_left held sending ordered within =
+    drop_all (sending.end - sending.first) (part_of sending.first sending.end held) (omega (arith, part_length sending.first sending.end held ordered within))
+
+-- so taking it comes to taking nothing
+pub own_held : (held : List Op) (sending : Sending) → IsSound held → all_formed held ≡ true → sending.first ≤ sending.end → sending.end ≤ length held
+    → take_outcome held [] ≡ take_outcome held (part_of sending.first sending.end held)
+own_held held sending sound formed ordered within =
+    ap (take_outcome held) (sym (own_left held sending ordered within))
+    ∙ outcome_behind held (part_of sending.first sending.end held) (sending.end - sending.first) (own_part held sending sound ordered within) sound
+        (formed_part sending.first sending.end held formed)
+
+-- ---- messages stay
+
+part_stays : (first end : ℕ) (ops more : List Op) → first ≤ end → end ≤ length ops → part_of first end (ops ++ more) ≡ part_of first end ops
+part_stays first end ops more ordered within =
+    ap (take (end - first)) (drop-append-le first ops more (omega arith))
+    ∙ take-append-le (end - first) (drop first ops) more (omega (arith, length-drop first ops))
+
+module _ (copies : List Log) (at : ℕ) (old new : Log) (there : slice_get copies at ≡ Some old) (grows : Grows old new) where
+  one_stays : (sending : Sending) → IsSent copies sending → (IsSent (slice_set copies at new) sending) × (message_of (slice_set copies at new) sending ≡ message_of copies sending)
+  one_stays sending sent = elim (cases_Bool (at == sending.sender)) [
+    | inl same ↦
+        let is : at ≡ sending.sender = eqb-true at sending.sender same in
+        let was : slice_get copies sending.sender ≡ Some old = ap (slice_get copies) (sym is) ∙ there in
+        let now : slice_get (slice_set copies at new) sending.sender ≡ Some new = ap (slice_get (slice_set copies at new)) (sym is) ∙ set_here copies at old new there in
+        let long : sending.end ≤ length old.ops = sent.within old was in
+        let longer : sending.end ≤ length new.ops = rw grows.is (omega (arith, long, length-append old.ops grows.more)) in
+        (
+          record {
+            there = omega (arith, sent.there, length-set copies at new);
+            ordered = sent.ordered;
+            within = λ log found. subst (λ (x : Log). sending.end ≤ length x.ops) (one_there (slice_set copies at new) sending.sender new log now found) longer;
+          },
+          ap (λ o. sent_by o sending) now
+          ∙ ap (part_of sending.first sending.end) grows.is
+          ∙ part_stays sending.first sending.end old.ops grows.more sent.ordered long
+          ∙ ap (λ o. sent_by o sending) (sym was)
+        )
+    | inr apart ↦
+        let same : slice_get (slice_set copies at new) sending.sender ≡ slice_get copies sending.sender = set_other copies at sending.sender new apart in
+        (
+          record { there = omega (arith, sent.there, length-set copies at new); ordered = sent.ordered; within = λ log found. sent.within log (sym same ∙ found) },
+          ap (λ o. sent_by o sending) same
+        )
+  ]
+
+  -- what was sent stays sent, and has the same operations
+  pub sent_stay : (sendings : List Sending) → All (IsSent copies) sendings → All (IsSent (slice_set copies at new)) sendings
+  sent_stay sendings all = All-weaker (IsSent copies) (IsSent (slice_set copies at new)) (λ sending sent. (one_stays sending sent).0) sendings all
+
+  pub messages_stay : (sendings : List Sending) → All (IsSent copies) sendings → messages_of (slice_set copies at new) sendings ≡ messages_of copies sendings
+  messages_stay [] all = refl
+  messages_stay (sending ∷ sendings) all =
+      ap (λ (ops : List Op). ops ∷ messages_of (slice_set copies at new) sendings) (one_stays sending (All-head (IsSent copies) sending sendings all)).1
+      ∙ ap (λ (rest : List (List Op)). message_of copies sending ∷ rest) (messages_stay sendings (All-tail (IsSent copies) sending sendings all))
+
+-- one message more
+pub message_more : (copies : List Log) (sendings : List Sending) (sending : Sending) → messages_of copies (sendings ++ sending ∷ []) ≡ messages_of copies sendings ++ message_of copies sending ∷ []
+message_more copies sendings sending = map-append (message_of copies) sendings (sending ∷ [])
+
+-- a message among them
+pub message_at : (copies : List Log) (sendings : List Sending) (i : ℕ) (sending : Sending) → slice_get sendings i ≡ Some sending → slice_get (messages_of copies sendings) i ≡ Some (message_of copies sending)
+message_at copies [] i sending there = cc
+message_at copies (first ∷ sendings) zero sending there = let same : first ≡ sending = cc in ap (λ (s : Sending). Some (message_of copies s)) same
+message_at copies (first ∷ sendings) (suc i) sending there = message_at copies sendings i sending there
+
+pub message_is : (copies : List Log) (sending : Sending) (log : Log) → slice_get copies sending.sender ≡ Some log → message_of copies sending ≡ part_of sending.first sending.end log.ops
+message_is copies sending log there = ap (λ o. sent_by o sending) there
+
+-- ---- one copy of several
+
+-- an element in front of a cut, and the first one behind it
+get_front : (front back : List Log) (at : ℕ) (copy : Log) → at < length front → copy ≡ get_or front at copy → slice_get (front ++ back) at ≡ Some copy
+get_front front back at copy within is =
+    slice_get_read (front ++ back) (length (front ++ back)) at copy refl (omega (arith, length-append front back)) (is ∙ sym (get_or-append front back copy at within))
+
+get_back : (front back : List Log) (at : ℕ) (copy : Log) → at ≡ length front → 0 < length back → copy ≡ get_or back 0 copy → slice_get (front ++ back) at ≡ Some copy
+get_back front [] at copy e some is = absurd (omega arith)
+get_back front (first ∷ back) at copy e some is =
+    slice_get_read (front ++ first ∷ back) (length (front ++ first ∷ back)) at copy refl (omega (arith, length-append front (first ∷ back)))
+    (is ∙ (sym (get_or-append_seam front first back copy) ∙ ap (λ (i : ℕ). get_or (front ++ first ∷ back) i copy) (sym e)))
+
+set_back : (front back : List Log) (at : ℕ) (copy : Log) → at ≡ length front → 0 < length back → front ++ slice_set back 0 copy ≡ slice_set (front ++ back) at copy
+set_back front [] at copy e some = absurd (omega arith)
+set_back front (first ∷ back) at copy e some = rw e (sym (set-append_seam front first back copy))
+
+-- one copy took a part of its own list
+pub behind_own : (copies : List Log) (into : ℕ) (sending : Sending) (copy after : Log) (taken : Result ℕ TakeFault) → sending.sender ≡ into → slice_get copies into ≡ Some copy
+    → TakesPart (sending.end - sending.first) (part_of sending.first sending.end copy.ops) taken copy after → TakesSent copies into sending taken (slice_set copies into after)
+behind_own copies into sending copy after taken own there takes = record {
+  one = copy;
+  other = copy;
+  after = after;
+  there = there;
+  other_there = ap (slice_get copies) own ∙ there;
+  known = sending.end - sending.first;
+  takes = takes;
+  kept = refl;
+}
+
+-- one copy took from the first copy behind the cut, or that one from one in front of it
+module _ (copies front back : List Log) (into known : ℕ) (sending : Sending) (one other : Log) (cut : copies ≡ front ++ back) (some : 0 < length back) where
+  pub there_back : into < length front → sending.sender ≡ length front → one ≡ get_or front into one → other ≡ get_or back 0 other → (slice_get copies into ≡ Some one) × (slice_get copies sending.sender ≡ Some other)
+  there_back within e one_is other_is = (rw cut (get_front front back into one within one_is), rw cut (get_back front back sending.sender other e some other_is))
+
+  pub behind_back : (after : Log) (taken : Result ℕ TakeFault) → into < length front → sending.sender ≡ length front → one ≡ get_or front into one → other ≡ get_or back 0 other
+      → TakesPart known (part_of sending.first sending.end other.ops) taken one after → TakesSent copies into sending taken (slice_set front into after ++ back)
+  behind_back after taken within e one_is other_is takes = record {
+    one = one;
+    other = other;
+    after = after;
+    there = rw cut (get_front front back into one within one_is);
+    other_there = rw cut (get_back front back sending.sender other e some other_is);
+    known = known;
+    takes = takes;
+    kept = rw cut (sym (set-append_left front back into after within));
+  }
+
+  pub there_front : into ≡ length front → sending.sender < length front → one ≡ get_or back 0 one → other ≡ get_or front sending.sender other → (slice_get copies into ≡ Some one) × (slice_get copies sending.sender ≡ Some other)
+  there_front e within one_is other_is = (rw cut (get_back front back into one e some one_is), rw cut (get_front front back sending.sender other within other_is))
+
+  pub behind_front : (after : Log) (taken : Result ℕ TakeFault) → into ≡ length front → sending.sender < length front → one ≡ get_or back 0 one → other ≡ get_or front sending.sender other
+      → TakesPart known (part_of sending.first sending.end other.ops) taken one after → TakesSent copies into sending taken (front ++ slice_set back 0 after)
+  behind_front after taken e within one_is other_is takes = record {
+    one = one;
+    other = other;
+    after = after;
+    there = rw cut (get_back front back into one e some one_is);
+    other_there = rw cut (get_front front back sending.sender other within other_is);
+    known = known;
+    takes = takes;
+    kept = rw cut (set_back front back into after e some);
+  }

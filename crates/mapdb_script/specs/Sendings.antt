@@ -1,0 +1,53 @@
+-- What messages have: parts of the lists of the copies that sent them.
+use Rattle.std.specs.Prelude.{◌≡◌, ◌≤◌, ◌<◌, ℕ, ◌-◌, List, [], Option, None, Some, Result, drop, length}
+use Rattle.std.specs.Prelude.{map, min, slice_get, slice_set, take}
+use Rattle.mapdb_facts.specs.declared.operations.Op.{Op}
+use Rattle.mapdb_replica.specs.Replica.{Log}
+use Rattle.mapdb_replica.specs.Taking.{Takes, take_outcome}
+use Rattle.mapdb_replica.specs.declared.faults.TakeFault.{TakeFault}
+use Rattle.mapdb_script.specs.declared.sendings.Sending.{Sending}
+
+-- the operations of a list from a mark on and up to before another
+abbrev pub part_of : ℕ → ℕ → List Op → List Op
+part_of first end ops = take (end - first) (drop first ops)
+
+-- the operations of a sending, in the list of its sender
+abbrev pub sent_by : Option Log → Sending → List Op
+sent_by None sending = []
+sent_by (Some log) sending = part_of sending.first sending.end log.ops
+
+abbrev pub message_of : List Log → Sending → List Op
+message_of copies sending = sent_by (slice_get copies sending.sender) sending
+
+-- the operations of each of these
+abbrev pub messages_of : List Log → List Sending → List (List Op)
+messages_of copies sendings = map (message_of copies) sendings
+
+-- the sender is there, and its list has that part
+pub record IsSent (copies : List Log) (sending : Sending) : Type 0 where
+  pub there : sending.sender < length copies
+  pub ordered : sending.first ≤ sending.end
+  pub within : (log : Log) → slice_get copies sending.sender ≡ Some log
+      → sending.end ≤ length log.ops
+
+-- how many first operations of a sending are among so many first ones of its sender's list
+abbrev pub known_among : Sending → ℕ → ℕ
+known_among sending mark = min mark sending.end - sending.first
+
+-- What a copy leaves that took a batch behind so many first operations, which it holds: it comes to
+-- what taking all of them does.
+abbrev pub TakesPart : ℕ → List Op → Result ℕ TakeFault → Log → Log → Type 0
+TakesPart known batch taken old new =
+    Takes (drop known batch) (take_outcome old.ops batch) taken old new
+
+-- One of the copies did so with a sending of another one, and the others stayed.
+pub record TakesSent (copies : List Log) (into : ℕ) (sending : Sending) (taken : Result ℕ TakeFault)
+    (new : List Log) : Type 0 where
+  pub one : Log
+  pub other : Log
+  pub after : Log
+  pub there : slice_get copies into ≡ Some one
+  pub other_there : slice_get copies sending.sender ≡ Some other
+  pub known : ℕ
+  pub takes : TakesPart known (part_of sending.first sending.end other.ops) taken one after
+  pub kept : new ≡ slice_set copies into after
