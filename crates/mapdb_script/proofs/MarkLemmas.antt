@@ -17,19 +17,19 @@ use Rattle.mapdb_replica.specs.declared.faults.TakeFault.{TakeFault}
 use Rattle.mapdb_replica.proofs.News.NewsOfBatches.{new_before}
 use Rattle.mapdb_cluster.proofs.Steps.Slots.{one_there, set_here, set_other}
 use Rattle.mapdb_script.specs.Answering.{Answered, Reply, ScriptCluster, compared, covers_answer, same_answer}
-use Rattle.mapdb_script.specs.Marks.{HoldsFirst, IsMark, mark_at}
+use Rattle.mapdb_script.specs.Marks.{HoldsFirst, IsMark, mark_of_two}
 use Rattle.mapdb_script.specs.Reply.{covers_text, same_text}
 use Rattle.mapdb_script.specs.States.{seen_of}
 use Rattle.mapdb_script.specs.declared.marks.Mark.{Mark}
 use Rattle.mapdb_script.proofs.MessageLemmas.{some_copy}
 
 -- none are held for sure
-pub none_noted : (copies : List Log) (at other : ℕ) → IsMark copies (mark_at at other 0)
+pub none_noted : (copies : List Log) (at other : ℕ) → IsMark copies (mark_of_two at other 0)
 none_noted copies at other = λ one two there beside. record { within = omega arith; known = refl }
 
 -- a mark among those that are so is so
 pub noted : (copies : List Log) (marks : List Mark) (i : ℕ) (d : Mark) (at other : ℕ) → i < length marks → (get_or marks i d).at ≡ at → (get_or marks i d).other ≡ other
-    → All (IsMark copies) marks → IsMark copies (mark_at at other (get_or marks i d).known)
+    → All (IsMark copies) marks → IsMark copies (mark_of_two at other (get_or marks i d).known)
 noted copies marks i d at other within here there all = λ one two one_there two_there.
     All-get_or (IsMark copies) marks i d within all one two (ap (slice_get copies) here ∙ one_there) (ap (slice_get copies) there ∙ two_there)
 
@@ -116,7 +116,7 @@ marks_stay copies marks at old new there grows all = All-weaker (IsMark copies) 
 -- ---- what was found out
 
 -- so many were found held of the two copies that are there
-pub mark_found : (copies : List Log) (at other known : ℕ) (one two : Log) → slice_get copies at ≡ Some one → slice_get copies other ≡ Some two → HoldsFirst one.ops known two.ops → IsMark copies (mark_at at other known)
+pub mark_found : (copies : List Log) (at other known : ℕ) (one two : Log) → slice_get copies at ≡ Some one → slice_get copies other ≡ Some two → HoldsFirst one.ops known two.ops → IsMark copies (mark_of_two at other known)
 mark_found copies at other known one two there beside first = λ a b a_there b_there.
     let is_one : one ≡ a = one_there copies at one a there a_there in
     let is_two : two ≡ b = one_there copies other two b beside b_there in

@@ -17,7 +17,7 @@ use Rattle.mapdb_cluster.specs.Run.{Happens, Loads, Move}
 use Rattle.mapdb_cluster.specs.declared.events.Event.TheVariants as event
 use Rattle.mapdb_cluster.specs.declared.events.Refusal.TheVariants as move_refusal
 use Rattle.mapdb_cluster.proofs.Steps.StepTells.{with_same}
-use Rattle.mapdb_script.specs.Sendings.{TakesPart, TakesSent, part_of}
+use Rattle.mapdb_script.specs.Sendings.{TakesPart, TakesSent, ops_between}
 use Rattle.mapdb_script.specs.declared.sendings.Sending.{Sending}
 use Rattle.mapdb_script.specs.Accepting.{heard}
 use Rattle.mapdb_script.specs.Answering.{Answered, ScriptCluster, LineDone, Refused, happened, line_done, loaded}
@@ -132,7 +132,7 @@ merge_same c into from result within e told = elim (slice_get_cases c.net.copies
 
 -- a copy that was given all that another one holds, or what is behind so many first ones of it, which it holds
 pub merge_told : (c : ScriptCluster) (into : ℕ) (all : Sending) (copies : List Log) (taken : Result ℕ TakeFault) (result : Result Answer TurnFault)
-    → into ≢ all.sender → (sent : TakesSent c.net.copies into all taken copies) → part_of all.first all.end sent.other.ops ≡ sent.other.ops → IsTakeTold taken result
+    → into ≢ all.sender → (sent : TakesSent c.net.copies into all taken copies) → ops_between all.first all.end sent.other.ops ≡ sent.other.ops → IsTakeTold taken result
     → Does result (record { copies = copies; messages = c.net.messages }) (happened c (event.Join into all.sender))
 merge_told c into all copies taken result apart sent whole told =
     let one = sent.one in

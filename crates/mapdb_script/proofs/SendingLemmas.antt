@@ -24,7 +24,7 @@ use Rattle.mapdb_replica.proofs.News.UnheldClashes.{least_clash-unheld}
 use Rattle.mapdb_replica.proofs.News.UnheldTurns.{news-unheld}
 use Rattle.mapdb_replica.proofs.Copies.Agreeing.{covers_known}
 use Rattle.mapdb_script.specs.Marks.{HoldsFirst}
-use Rattle.mapdb_script.specs.Sendings.{IsSent, TakesPart, TakesSent, known_among, message_of, messages_of, part_of, sent_by}
+use Rattle.mapdb_script.specs.Sendings.{IsSent, TakesPart, TakesSent, known_among, ops_sent, messages_of, ops_between, sent_by}
 use Rattle.mapdb_script.specs.declared.sendings.Sending.{Sending}
 use Rattle.mapdb_script.proofs.MarkLemmas.{Grows}
 
@@ -85,19 +85,19 @@ formed_front (suc k) [] formed = refl
 formed_front (suc k) (op ∷ ops) formed =
     let parts = and_parts (is_formed op) (all_formed ops) formed in and_from (is_formed op) (all_formed (take k ops)) parts.0 (formed_front k ops parts.1)
 
-pub formed_part : (first end : ℕ) (ops : List Op) → all_formed ops ≡ true → all_formed (part_of first end ops) ≡ true
+pub formed_part : (first end : ℕ) (ops : List Op) → all_formed ops ≡ true → all_formed (ops_between first end ops) ≡ true
 formed_part first end ops formed = formed_front (end - first) (drop first ops) (formed_behind first ops formed)
 
-part_length : (first end : ℕ) (ops : List Op) → first ≤ end → end ≤ length ops → length (part_of first end ops) ≡ end - first
+part_length : (first end : ℕ) (ops : List Op) → first ≤ end → end ≤ length ops → length (ops_between first end ops) ≡ end - first
 part_length first end ops ordered within = length-take-le (end - first) (drop first ops) (omega (arith, length-drop first ops))
 
 -- the part that is all of a list
-pub part_all : (ops : List Op) → part_of 0 (length ops) ops ≡ ops
+pub part_all : (ops : List Op) → ops_between 0 (length ops) ops ≡ ops
 part_all ops = let all : length ops - 0 ≡ length ops = omega arith in ap (λ (k : ℕ). take k ops) all ∙ take-length ops
 
 -- what is held of a sender's list is held of a part of it
 pub known_part : (held ops : List Op) (sending : Sending) (mark : ℕ) → sending.first ≤ sending.end → sending.end ≤ length ops → HoldsFirst held mark ops
-    → HoldsFirst held (known_among sending mark) (part_of sending.first sending.end ops)
+    → HoldsFirst held (known_among sending mark) (ops_between sending.first sending.end ops)
 known_part held ops sending mark ordered within first =
     let k = known_among sending mark in
     let few : k ≤ sending.end - sending.first = omega arith in
@@ -112,7 +112,7 @@ known_part held ops sending mark ordered within first =
 
 -- a copy holds each part of its own list
 own_part : (held : List Op) (sending : Sending) → IsSound held → sending.first ≤ sending.end → sending.end ≤ length held
-    → HoldsFirst held (sending.end - sending.first) (part_of sending.first sending.end held)
+    → HoldsFirst held (sending.end - sending.first) (ops_between sending.first sending.end held)
 own_part held sending sound ordered within = record {
   within = rw (part_length sending.first sending.end held ordered within) (omega arith);
   known = rw (take-take (sending.end - sending.first) (sending.end - sending.first) (drop sending.first held) (omega arith))
@@ -121,50 +121,48 @@ own_part held sending sound ordered within = record {
 
 -- nothing of it is left
 pub own_left : (held : List Op) (sending : Sending) → sending.first ≤ sending.end → sending.end ≤ length held
-    → drop (sending.end - sending.first) (part_of sending.first sending.end held) ≡ []
+    → drop (sending.end - sending.first) (ops_between sending.first sending.end held) ≡ []
 own_left held sending ordered within =
-    drop_all (sending.end - sending.first) (part_of sending.first sending.end held) (omega (arith, part_length sending.first sending.end held ordered within))
+    drop_all (sending.end - sending.first) (ops_between sending.first sending.end held) (omega (arith, part_length sending.first sending.end held ordered within))
 
 -- so taking it comes to taking nothing
 pub own_held : (held : List Op) (sending : Sending) → IsSound held → all_formed held ≡ true → sending.first ≤ sending.end → sending.end ≤ length held
-    → take_outcome held [] ≡ take_outcome held (part_of sending.first sending.end held)
+    → take_outcome held [] ≡ take_outcome held (ops_between sending.first sending.end held)
 own_held held sending sound formed ordered within =
     ap (take_outcome held) (sym (own_left held sending ordered within))
-    ∙ outcome_behind held (part_of sending.first sending.end held) (sending.end - sending.first) (own_part held sending sound ordered within) sound
-        (formed_part sending.first sending.end held formed)
+    ∙ outcome_behind held (ops_between sending.first sending.end held) (sending.end - sending.first) (own_part held sending sound ordered within) sound
+    (formed_part sending.first sending.end held formed)
 
 -- ---- messages stay
 
-part_stays : (first end : ℕ) (ops more : List Op) → first ≤ end → end ≤ length ops → part_of first end (ops ++ more) ≡ part_of first end ops
+part_stays : (first end : ℕ) (ops more : List Op) → first ≤ end → end ≤ length ops → ops_between first end (ops ++ more) ≡ ops_between first end ops
 part_stays first end ops more ordered within =
     ap (take (end - first)) (drop-append-le first ops more (omega arith))
     ∙ take-append-le (end - first) (drop first ops) more (omega (arith, length-drop first ops))
 
 module _ (copies : List Log) (at : ℕ) (old new : Log) (there : slice_get copies at ≡ Some old) (grows : Grows old new) where
-  one_stays : (sending : Sending) → IsSent copies sending → (IsSent (slice_set copies at new) sending) × (message_of (slice_set copies at new) sending ≡ message_of copies sending)
+  one_stays : (sending : Sending) → IsSent copies sending → (IsSent (slice_set copies at new) sending) × (ops_sent (slice_set copies at new) sending ≡ ops_sent copies sending)
   one_stays sending sent = elim (cases_Bool (at == sending.sender)) [
     | inl same ↦
         let is : at ≡ sending.sender = eqb-true at sending.sender same in
         let was : slice_get copies sending.sender ≡ Some old = ap (slice_get copies) (sym is) ∙ there in
         let now : slice_get (slice_set copies at new) sending.sender ≡ Some new = ap (slice_get (slice_set copies at new)) (sym is) ∙ set_here copies at old new there in
         let long : sending.end ≤ length old.ops = sent.within old was in
-        let longer : sending.end ≤ length new.ops = rw grows.is (omega (arith, long, length-append old.ops grows.more)) in
-        (
+        let longer : sending.end ≤ length new.ops = rw grows.is (omega (arith, long, length-append old.ops grows.more)) in (
           record {
             there = omega (arith, sent.there, length-set copies at new);
             ordered = sent.ordered;
             within = λ log found. subst (λ (x : Log). sending.end ≤ length x.ops) (one_there (slice_set copies at new) sending.sender new log now found) longer;
           },
           ap (λ o. sent_by o sending) now
-          ∙ ap (part_of sending.first sending.end) grows.is
-          ∙ part_stays sending.first sending.end old.ops grows.more sent.ordered long
-          ∙ ap (λ o. sent_by o sending) (sym was)
+              ∙ ap (ops_between sending.first sending.end) grows.is
+              ∙ part_stays sending.first sending.end old.ops grows.more sent.ordered long
+              ∙ ap (λ o. sent_by o sending) (sym was),
         )
     | inr apart ↦
-        let same : slice_get (slice_set copies at new) sending.sender ≡ slice_get copies sending.sender = set_other copies at sending.sender new apart in
-        (
+        let same : slice_get (slice_set copies at new) sending.sender ≡ slice_get copies sending.sender = set_other copies at sending.sender new apart in (
           record { there = omega (arith, sent.there, length-set copies at new); ordered = sent.ordered; within = λ log found. sent.within log (sym same ∙ found) },
-          ap (λ o. sent_by o sending) same
+          ap (λ o. sent_by o sending) same,
         )
   ]
 
@@ -176,19 +174,19 @@ module _ (copies : List Log) (at : ℕ) (old new : Log) (there : slice_get copie
   messages_stay [] all = refl
   messages_stay (sending ∷ sendings) all =
       ap (λ (ops : List Op). ops ∷ messages_of (slice_set copies at new) sendings) (one_stays sending (All-head (IsSent copies) sending sendings all)).1
-      ∙ ap (λ (rest : List (List Op)). message_of copies sending ∷ rest) (messages_stay sendings (All-tail (IsSent copies) sending sendings all))
+      ∙ ap (λ (rest : List (List Op)). ops_sent copies sending ∷ rest) (messages_stay sendings (All-tail (IsSent copies) sending sendings all))
 
 -- one message more
-pub message_more : (copies : List Log) (sendings : List Sending) (sending : Sending) → messages_of copies (sendings ++ sending ∷ []) ≡ messages_of copies sendings ++ message_of copies sending ∷ []
-message_more copies sendings sending = map-append (message_of copies) sendings (sending ∷ [])
+pub message_more : (copies : List Log) (sendings : List Sending) (sending : Sending) → messages_of copies (sendings ++ sending ∷ []) ≡ messages_of copies sendings ++ ops_sent copies sending ∷ []
+message_more copies sendings sending = map-append (ops_sent copies) sendings (sending ∷ [])
 
 -- a message among them
-pub message_at : (copies : List Log) (sendings : List Sending) (i : ℕ) (sending : Sending) → slice_get sendings i ≡ Some sending → slice_get (messages_of copies sendings) i ≡ Some (message_of copies sending)
+pub message_at : (copies : List Log) (sendings : List Sending) (i : ℕ) (sending : Sending) → slice_get sendings i ≡ Some sending → slice_get (messages_of copies sendings) i ≡ Some (ops_sent copies sending)
 message_at copies [] i sending there = cc
-message_at copies (first ∷ sendings) zero sending there = let same : first ≡ sending = cc in ap (λ (s : Sending). Some (message_of copies s)) same
+message_at copies (first ∷ sendings) zero sending there = let same : first ≡ sending = cc in ap (λ (s : Sending). Some (ops_sent copies s)) same
 message_at copies (first ∷ sendings) (suc i) sending there = message_at copies sendings i sending there
 
-pub message_is : (copies : List Log) (sending : Sending) (log : Log) → slice_get copies sending.sender ≡ Some log → message_of copies sending ≡ part_of sending.first sending.end log.ops
+pub message_is : (copies : List Log) (sending : Sending) (log : Log) → slice_get copies sending.sender ≡ Some log → ops_sent copies sending ≡ ops_between sending.first sending.end log.ops
 message_is copies sending log there = ap (λ o. sent_by o sending) there
 
 -- ---- one copy of several
@@ -210,7 +208,7 @@ set_back front (first ∷ back) at copy e some = rw e (sym (set-append_seam fron
 
 -- one copy took a part of its own list
 pub behind_own : (copies : List Log) (into : ℕ) (sending : Sending) (copy after : Log) (taken : Result ℕ TakeFault) → sending.sender ≡ into → slice_get copies into ≡ Some copy
-    → TakesPart (sending.end - sending.first) (part_of sending.first sending.end copy.ops) taken copy after → TakesSent copies into sending taken (slice_set copies into after)
+    → TakesPart (sending.end - sending.first) (ops_between sending.first sending.end copy.ops) taken copy after → TakesSent copies into sending taken (slice_set copies into after)
 behind_own copies into sending copy after taken own there takes = record {
   one = copy;
   other = copy;
@@ -228,7 +226,7 @@ module _ (copies front back : List Log) (into known : ℕ) (sending : Sending) (
   there_back within e one_is other_is = (rw cut (get_front front back into one within one_is), rw cut (get_back front back sending.sender other e some other_is))
 
   pub behind_back : (after : Log) (taken : Result ℕ TakeFault) → into < length front → sending.sender ≡ length front → one ≡ get_or front into one → other ≡ get_or back 0 other
-      → TakesPart known (part_of sending.first sending.end other.ops) taken one after → TakesSent copies into sending taken (slice_set front into after ++ back)
+      → TakesPart known (ops_between sending.first sending.end other.ops) taken one after → TakesSent copies into sending taken (slice_set front into after ++ back)
   behind_back after taken within e one_is other_is takes = record {
     one = one;
     other = other;
@@ -244,7 +242,7 @@ module _ (copies front back : List Log) (into known : ℕ) (sending : Sending) (
   there_front e within one_is other_is = (rw cut (get_back front back into one e some one_is), rw cut (get_front front back sending.sender other within other_is))
 
   pub behind_front : (after : Log) (taken : Result ℕ TakeFault) → into ≡ length front → sending.sender < length front → one ≡ get_or back 0 one → other ≡ get_or front sending.sender other
-      → TakesPart known (part_of sending.first sending.end other.ops) taken one after → TakesSent copies into sending taken (front ++ slice_set back 0 after)
+      → TakesPart known (ops_between sending.first sending.end other.ops) taken one after → TakesSent copies into sending taken (front ++ slice_set back 0 after)
   behind_front after taken e within one_is other_is takes = record {
     one = one;
     other = other;

@@ -16,5 +16,5 @@ IsMark copies mark = (one other : Log) → slice_get copies mark.at ≡ Some one
     → slice_get copies mark.other ≡ Some other → HoldsFirst one.ops mark.known other.ops
 
 -- a mark of two copies
-abbrev pub mark_at : ℕ → ℕ → ℕ → Mark
-mark_at at other known = record { at = at; other = other; known = known }
+abbrev pub mark_of_two : ℕ → ℕ → ℕ → Mark
+mark_of_two at other known = record { at = at; other = other; known = known }

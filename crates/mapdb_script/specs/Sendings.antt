@@ -8,20 +8,21 @@ use Rattle.mapdb_replica.specs.declared.faults.TakeFault.{TakeFault}
 use Rattle.mapdb_script.specs.declared.sendings.Sending.{Sending}
 
 -- the operations of a list from a mark on and up to before another
-abbrev pub part_of : ℕ → ℕ → List Op → List Op
-part_of first end ops = take (end - first) (drop first ops)
+abbrev pub ops_between : ℕ → ℕ → List Op → List Op
+ops_between first end ops = take (end - first) (drop first ops)
 
--- the operations of a sending, in the list of its sender
+-- those of a sending, of the copy that sent it
 abbrev pub sent_by : Option Log → Sending → List Op
 sent_by None sending = []
-sent_by (Some log) sending = part_of sending.first sending.end log.ops
+sent_by (Some log) sending = ops_between sending.first sending.end log.ops
 
-abbrev pub message_of : List Log → Sending → List Op
-message_of copies sending = sent_by (slice_get copies sending.sender) sending
+-- those of a sending of one of the copies
+abbrev pub ops_sent : List Log → Sending → List Op
+ops_sent copies sending = sent_by (slice_get copies sending.sender) sending
 
 -- the operations of each of these
 abbrev pub messages_of : List Log → List Sending → List (List Op)
-messages_of copies sendings = map (message_of copies) sendings
+messages_of copies sendings = map (ops_sent copies) sendings
 
 -- the sender is there, and its list has that part
 pub record IsSent (copies : List Log) (sending : Sending) : Type 0 where
@@ -49,5 +50,5 @@ pub record TakesSent (copies : List Log) (into : ℕ) (sending : Sending) (taken
   pub there : slice_get copies into ≡ Some one
   pub other_there : slice_get copies sending.sender ≡ Some other
   pub known : ℕ
-  pub takes : TakesPart known (part_of sending.first sending.end other.ops) taken one after
+  pub takes : TakesPart known (ops_between sending.first sending.end other.ops) taken one after
   pub kept : new ≡ slice_set copies into after

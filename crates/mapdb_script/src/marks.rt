@@ -4,7 +4,7 @@
 ghost use Rattle.std.specs.Prelude.{◌≡◌, ◌==◌, All, List, length};
 ghost use Rattle.mapdb_replica.specs.Agreement.{knows_all};
 ghost use Rattle.mapdb_replica.specs.Replica.{Log};
-ghost use Rattle.mapdb_script.specs.Marks.{HoldsFirst, IsMark, mark_at};
+ghost use Rattle.mapdb_script.specs.Marks.{HoldsFirst, IsMark, mark_of_two};
 
 use mapdb_facts::Op;
 use mapdb_replica::Replica;
@@ -25,7 +25,7 @@ pub(crate) struct Mark {
 /// was noted of the two. What is noted is a matter of speed alone.
 pub(crate) fn known_of(marks: &[Mark], at: usize, other: usize) -> usize
     ensures { (copies : List Log) → All (IsMark copies) marks.now
-        → IsMark copies (mark_at at other result) }
+        → IsMark copies (mark_of_two at other result) }
 {
     for mark in marks {
         if mark.at == at && mark.other == other {

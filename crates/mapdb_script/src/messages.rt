@@ -18,7 +18,7 @@ impl ScriptCluster {
     ghost use Rattle.mapdb_replica.specs.Replica.{Log};
     ghost use Rattle.mapdb_script.specs.Accepting.{Accepted};
     ghost use Rattle.mapdb_script.specs.Answering.{compared, covers_answer, happened, same_answer};
-    ghost use Rattle.mapdb_script.specs.Sendings.{IsSent, message_of};
+    ghost use Rattle.mapdb_script.specs.Sendings.{IsSent, ops_sent};
     ghost use Rattle.mapdb_script.specs.States.{Does, beside, net_of};
 
     /// The places of two processors' copies, if the cluster has both.
@@ -47,7 +47,7 @@ impl ScriptCluster {
     fn post(&mut self, sending: Sending) -> Result<(), AllocError>
         requires { IsSent self.old.copies.items sending }
         ensures { OnOk result (net_of self.new ≡ with_message (net_of self.old)
-            (message_of self.old.copies.items sending)) }
+            (ops_sent self.old.copies.items sending)) }
     {
         self.messages.push(sending)?;
         Ok(())

@@ -5,7 +5,7 @@ ghost use Rattle.std.specs.Prelude.{◌≡◌, ◌≤◌, ◌<◌, ◌-◌, List
 ghost use Rattle.mapdb_facts.specs.WellFormed.{all_formed};
 ghost use Rattle.mapdb_replica.specs.Replica.{Log};
 ghost use Rattle.mapdb_script.specs.Marks.{HoldsFirst};
-ghost use Rattle.mapdb_script.specs.Sendings.{IsSent, TakesPart, TakesSent, known_among, part_of};
+ghost use Rattle.mapdb_script.specs.Sendings.{IsSent, TakesPart, TakesSent, known_among, ops_between};
 
 use mapdb_facts::Op;
 use mapdb_replica::{Replica, TakeFault};
@@ -45,7 +45,7 @@ fn take_between(
     requires known { HoldsFirst copy.old.ops mark other.now.ops }
     requires ordered { sending.first ≤ sending.end }
     requires within { sending.end ≤ length other.now.ops }
-    ensures { TakesPart (known_among sending mark) (part_of sending.first sending.end other.now.ops)
+    ensures { TakesPart (known_among sending mark) (ops_between sending.first sending.end other.now.ops)
         result copy.old copy.new }
 {
     let known = mark.min(sending.end).saturating_sub(sending.first);
@@ -57,7 +57,7 @@ fn take_own(copy: &mut Replica, sending: Sending) -> Result<u32, TakeFault>
     requires ordered { sending.first ≤ sending.end }
     requires within { sending.end ≤ length copy.old.ops }
     ensures { TakesPart (sending.end - sending.first)
-        (part_of sending.first sending.end copy.old.ops) result copy.old copy.new }
+        (ops_between sending.first sending.end copy.old.ops) result copy.old copy.new }
 {
     // The proof needs that what the copy holds is sound, as above.
     let _held = copy.ops();

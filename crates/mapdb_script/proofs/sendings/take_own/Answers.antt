@@ -1,6 +1,6 @@
 use Rattle.std.proofs.Common.{◌≡◌, []}
 use Rattle.mapdb_replica.specs.Taking.{take_outcome}
-use Rattle.mapdb_script.specs.Sendings.{part_of}
+use Rattle.mapdb_script.specs.Sendings.{ops_between}
 use Rattle.mapdb_script.proofs.SendingLemmas.{own_held, own_left}
 use Rattle.mapdb_script.proofs.sendings.take_own.Goals as goal
 
@@ -9,6 +9,6 @@ returns c =
     let held = c.args.copy.now.ops in
     let sending = c.args.sending in
     let left = own_left held sending c.requires.ordered c.requires.within in
-    let outcome : take_outcome held [] ≡ take_outcome held (part_of sending.first sending.end held) =
-        own_held held sending c.ops-held.ensures.sound c.ops-held.ensures.formed c.requires.ordered c.requires.within in
+    let outcome : take_outcome held [] ≡ take_outcome held (ops_between sending.first sending.end held) =
+    own_held held sending c.ops-held.ensures.sound c.ops-held.ensures.formed c.requires.ordered c.requires.within in
     rw (left, ← outcome) c.take.ensures.takes

@@ -10,7 +10,7 @@ take_between-requires-clause-known c =
     let sent = c.requires.sent in
     let long : c.args.sending.sender < length c.args.copies.now = sent.there in
     let there = there_back c.args.copies.now cut.result.0.now cut.result.1.now c.args.into 0 c.args.sending c.index-front-into.result c.index-back-0.result cut.ensures.value (omega (arith, long))
-        (omega arith) (omega arith) c.index-front-into.is c.index-back-0.is in
+    (omega arith) (omega arith) c.index-front-into.is c.index-back-0.is in
     rw (← c.index-front-into.is, ← c.index-back-0.is) (c.requires.held c.index-front-into.result c.index-back-0.result there.0 there.1)
 
 pub take_between-requires-clause-within : goal.take_between-requires-clause-within
@@ -19,14 +19,14 @@ take_between-requires-clause-within c =
     let sent = c.requires.sent in
     let long : c.args.sending.sender < length c.args.copies.now = sent.there in
     let there = there_back c.args.copies.now cut.result.0.now cut.result.1.now c.args.into 0 c.args.sending c.index-front-into.result c.index-back-0.result cut.ensures.value (omega (arith, long))
-        (omega arith) (omega arith) c.index-front-into.is c.index-back-0.is in
+    (omega arith) (omega arith) c.index-front-into.is c.index-back-0.is in
     rw (← c.index-back-0.is) (sent.within c.index-back-0.result there.1)
 
 pub take_between-requires-else-into-sending-clause-known : goal.take_between-requires-else-into-sending-clause-known
 take_between-requires-else-into-sending-clause-known c =
     let cut = c.split_at_mut-front-else-into-sending in
     let there = there_front c.args.copies.now cut.result.0.now cut.result.1.now c.args.into 0 c.args.sending c.index-back-0-else-into-sending.result c.index-front-sending.result cut.ensures.value (omega arith)
-        (omega arith) (omega arith) c.index-back-0-else-into-sending.is c.index-front-sending.is in
+    (omega arith) (omega arith) c.index-back-0-else-into-sending.is c.index-front-sending.is in
     rw (← c.index-back-0-else-into-sending.is, ← c.index-front-sending.is) (c.requires.held c.index-back-0-else-into-sending.result c.index-front-sending.result there.0 there.1)
 
 pub take_between-requires-else-into-sending-clause-within : goal.take_between-requires-else-into-sending-clause-within
@@ -34,7 +34,7 @@ take_between-requires-else-into-sending-clause-within c =
     let cut = c.split_at_mut-front-else-into-sending in
     let sent = c.requires.sent in
     let there = there_front c.args.copies.now cut.result.0.now cut.result.1.now c.args.into 0 c.args.sending c.index-back-0-else-into-sending.result c.index-front-sending.result cut.ensures.value (omega arith)
-        (omega arith) (omega arith) c.index-back-0-else-into-sending.is c.index-front-sending.is in
+    (omega arith) (omega arith) c.index-back-0-else-into-sending.is c.index-front-sending.is in
     rw (← c.index-front-sending.is) (sent.within c.index-front-sending.result there.1)
 
 pub returns-then-into-sending : goal.returns-then-into-sending
