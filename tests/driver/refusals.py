@@ -103,9 +103,7 @@ def fronts_before(script: Script) -> Optional[set[int]]:
 
 def takes_memory(reply: bytes) -> bool:
     """Whether a line that is replied this asks for memory, whatever came before: for the text of a
-    snapshot, for the list of a page's rights, or for the operations of a message."""
-    if reply.startswith(b"message "):
-        return not reply.endswith(b" 0\n")
+    snapshot, or for the list of a page's rights."""
     return reply.startswith((b"snapshot ", b"rights ")) and reply != b"rights none\n"
 
 

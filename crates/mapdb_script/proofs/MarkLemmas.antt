@@ -1,9 +1,8 @@
 -- What is noted of two copies is so, and stays so.
-use Rattle.std.proofs.Common.{◌≡◌, ℕ, ◌++◌, ◌∷◌, ◌<◌, All, Bool, List, [], ap, append-nil, arith, false, get_or, inl, inr, length, refl, slice_get, subst, sym, take, true, ◌∙◌}
-use Rattle.std.specs.Prelude.{Err, Ok, Result, Some, not, slice_set, ◌==◌, ◌&&◌}
-use Rattle.std.proofs.lemmas.Bool.{and_from, and_parts, cases_Bool, eqb-true, false≢true, not-true}
-use Rattle.std.proofs.lemmas.List.{length-append, take-append-le}
-use Rattle.std.proofs.lemmas.List.Elements.{All-get_or, All-weaker}
+use Rattle.std.proofs.Common.{◌≡◌, ℕ, ◌++◌, ◌∷◌, ◌<◌, Bool, List, [], ap, append-nil, arith, false, get_or, inl, inr, length, refl, slice_get, subst, sym, take, true, ◌∙◌, zero, suc}
+use Rattle.std.specs.Prelude.{Err, Ok, Result, Some, not, slice_set, ◌==◌, ◌&&◌, replicate}
+use Rattle.std.proofs.lemmas.Bool.{and_from, and_parts, cases_Bool, eqb-true, false≢true, not-true, eq-eqb, true≢false}
+use Rattle.std.proofs.lemmas.List.{length-append, take-append-le, get_or-set_same, get_or-set_other}
 use Rattle.mapdb_facts.specs.Adding.{is_new}
 use Rattle.mapdb_facts.specs.State.{State, state_of}
 use Rattle.mapdb_facts.specs.declared.operations.Op.{Op}
@@ -17,7 +16,8 @@ use Rattle.mapdb_replica.specs.declared.faults.TakeFault.{TakeFault}
 use Rattle.mapdb_replica.proofs.News.NewsOfBatches.{new_before}
 use Rattle.mapdb_cluster.proofs.Steps.Slots.{one_there, set_here, set_other}
 use Rattle.mapdb_script.specs.Answering.{Answered, Reply, ScriptCluster, compared, covers_answer, same_answer}
-use Rattle.mapdb_script.specs.Marks.{HoldsFirst, IsMark, mark_of_two}
+use Rattle.mapdb_script.specs.Marks.{AreMarks, HoldsFirst, IsMark, known_at, known_in, mark_of_two}
+use Rattle.std.specs.Global.{Vec}
 use Rattle.mapdb_script.specs.Reply.{covers_text, same_text}
 use Rattle.mapdb_script.specs.States.{seen_of}
 use Rattle.mapdb_script.specs.declared.marks.Mark.{Mark}
@@ -26,12 +26,6 @@ use Rattle.mapdb_script.proofs.MessageLemmas.{some_copy}
 -- none are held for sure
 pub none_noted : (copies : List Log) (at other : ℕ) → IsMark copies (mark_of_two at other 0)
 none_noted copies at other = λ one two there beside. record { within = omega arith; known = refl }
-
--- a mark among those that are so is so
-pub noted : (copies : List Log) (marks : List Mark) (i : ℕ) (d : Mark) (at other : ℕ) → i < length marks → (get_or marks i d).at ≡ at → (get_or marks i d).other ≡ other
-    → All (IsMark copies) marks → IsMark copies (mark_of_two at other (get_or marks i d).known)
-noted copies marks i d at other within here there all = λ one two one_there two_there.
-    All-get_or (IsMark copies) marks i d within all one two (ap (slice_get copies) here ∙ one_there) (ap (slice_get copies) there ∙ two_there)
 
 -- ---- lists grow
 
@@ -79,7 +73,7 @@ known_later held more (op ∷ ops) known =
     and_from (not (is_new (state_of (held ++ more)) op)) (knows_all (held ++ more) ops) (old_later held more op parts.0) (known_later held more ops parts.1)
 
 -- so many first operations of a list stay held, whatever comes to both
-first_later : (held more ops rest : List Op) (count : ℕ) → HoldsFirst held count ops → HoldsFirst (held ++ more) count (ops ++ rest)
+pub first_later : (held more ops rest : List Op) (count : ℕ) → HoldsFirst held count ops → HoldsFirst (held ++ more) count (ops ++ rest)
 first_later held more ops rest count first = record {
   within = omega (arith, first.within, length-append ops rest);
   known = ap (knows_all (held ++ more)) (take-append-le count ops rest first.within) ∙ known_later held more (take count ops) first.known;
@@ -93,7 +87,7 @@ pub record WasThere (copies : List Log) (i : ℕ) (now : Log) : Type 0 where
   pub there : slice_get copies i ≡ Some before
   pub grows : Grows before now
 
-was_there : (copies : List Log) (at : ℕ) (old new : Log) → slice_get copies at ≡ Some old → Grows old new → (i : ℕ) (now : Log) → slice_get (slice_set copies at new) i ≡ Some now → WasThere copies i now
+pub was_there : (copies : List Log) (at : ℕ) (old new : Log) → slice_get copies at ≡ Some old → Grows old new → (i : ℕ) (now : Log) → slice_get (slice_set copies at new) i ≡ Some now → WasThere copies i now
 was_there copies at old new there grows i now found = elim (cases_Bool (at == i)) [
   | inl same ↦
       let is : at ≡ i = eqb-true at i same in
@@ -110,8 +104,53 @@ mark_stays copies at old new there grows mark so = λ one two one_there two_ther
     (first_later first.before.ops first.grows.more second.before.ops second.grows.more mark.known (so first.before second.before first.there second.there))
 
 -- what is noted stays so, whichever copy grows
-pub marks_stay : (copies : List Log) (marks : List Mark) (at : ℕ) (old new : Log) → slice_get copies at ≡ Some old → Grows old new → All (IsMark copies) marks → All (IsMark (slice_set copies at new)) marks
-marks_stay copies marks at old new there grows all = All-weaker (IsMark copies) (IsMark (slice_set copies at new)) (mark_stays copies at old new there grows) marks all
+pub marks_stay : (copies : List Log) (rows : List (Vec ℕ)) (at : ℕ) (old new : Log) → slice_get copies at ≡ Some old → Grows old new → AreMarks copies rows → AreMarks (slice_set copies at new) rows
+marks_stay copies rows at old new there grows all = λ one other. mark_stays copies at old new there grows (mark_of_two one other (known_at rows one other)) (all one other)
+
+-- ---- rows of numbers
+
+-- nothing is noted
+abbrev pub NoneNoted : List (Vec ℕ) → Type 0
+NoneNoted rows = (at other : ℕ) → known_at rows at other ≡ 0
+
+pub none_are_marks : (copies : List Log) (rows : List (Vec ℕ)) → NoneNoted rows → AreMarks copies rows
+none_are_marks copies rows none = λ at other. rw (none at other) (none_noted copies at other)
+
+all_alike : (n i d : ℕ) → get_or (replicate n d) i d ≡ d
+all_alike zero i d = refl
+all_alike (suc n) zero d = refl
+all_alike (suc n) (suc i) d = all_alike n i d
+
+-- one row more of which nothing is noted
+pub row_more : (rows : List (Vec ℕ)) (row : Vec ℕ) (n : ℕ) → NoneNoted rows → row.items ≡ replicate n 0 → NoneNoted (rows ++ row ∷ [])
+row_more [] row n none is zero other = ap (λ (ns : List ℕ). get_or ns other 0) is ∙ all_alike n other 0
+row_more [] row n none is (suc at) other = refl
+row_more (first ∷ rows) row n none is zero other = none 0 other
+row_more (first ∷ rows) row n none is (suc at) other = row_more rows row n (λ i o. none (suc i) o) is at other
+
+-- a number of a row is set
+pub row_set : (copies : List Log) (rows : List (Vec ℕ)) (mark : Mark) (row new : Vec ℕ) → AreMarks copies rows → IsMark copies mark → slice_get rows mark.at ≡ Some row → mark.other < length row.items
+    → new.items ≡ slice_set row.items mark.other mark.known → AreMarks copies (slice_set rows mark.at new)
+row_set copies rows mark row new all so there within is = λ a o. elim (cases_Bool (mark.at == a)) [
+  | inl same ↦
+      let here : mark.at ≡ a = eqb-true mark.at a same in
+      let was : slice_get rows a ≡ Some row = ap (slice_get rows) (sym here) ∙ there in
+      let now : slice_get (slice_set rows mark.at new) a ≡ Some new = ap (slice_get (slice_set rows mark.at new)) (sym here) ∙ set_here rows mark.at row new there in
+      let reads : known_at (slice_set rows mark.at new) a o ≡ get_or (slice_set row.items mark.other mark.known) o 0 = ap (λ r. known_in r o) now ∙ ap (λ (ns : List ℕ). get_or ns o 0) is in
+      elim (cases_Bool (mark.other == o)) [
+        | inl other ↦
+            let beside : mark.other ≡ o = eqb-true mark.other o other in
+            let value : get_or (slice_set row.items mark.other mark.known) o 0 ≡ mark.known = ap (λ (i : ℕ). get_or (slice_set row.items mark.other mark.known) i 0) (sym beside) ∙ get_or-set_same row.items mark.other mark.known 0 within in
+            subst (λ (n : ℕ). IsMark copies (mark_of_two a o n)) (sym (reads ∙ value)) (subst (λ (x : ℕ). IsMark copies (mark_of_two x o mark.known)) here (subst (λ (y : ℕ). IsMark copies (mark_of_two mark.at y mark.known)) beside so))
+        | inr another ↦
+            let value : get_or (slice_set row.items mark.other mark.known) o 0 ≡ known_at rows a o =
+            get_or-set_other row.items mark.other o mark.known 0 (λ e. true≢false (sym (eq-eqb mark.other o (sym e)) ∙ another)) ∙ sym (ap (λ r. known_in r o) was) in
+            subst (λ (n : ℕ). IsMark copies (mark_of_two a o n)) (sym (reads ∙ value)) (all a o)
+      ]
+  | inr apart ↦
+      let same : known_at (slice_set rows mark.at new) a o ≡ known_at rows a o = ap (λ r. known_in r o) (set_other rows mark.at a new apart) in
+      subst (λ (n : ℕ). IsMark copies (mark_of_two a o n)) (sym same) (all a o)
+]
 
 -- ---- what was found out
 

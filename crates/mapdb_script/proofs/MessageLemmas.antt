@@ -17,7 +17,7 @@ use Rattle.mapdb_cluster.specs.Run.{Happens, Loads, Move}
 use Rattle.mapdb_cluster.specs.declared.events.Event.TheVariants as event
 use Rattle.mapdb_cluster.specs.declared.events.Refusal.TheVariants as move_refusal
 use Rattle.mapdb_cluster.proofs.Steps.StepTells.{with_same}
-use Rattle.mapdb_script.specs.Sendings.{TakesPart, TakesSent, ops_between}
+use Rattle.mapdb_script.specs.Sendings.{TakesSent, ops_between}
 use Rattle.mapdb_script.specs.declared.sendings.Sending.{Sending}
 use Rattle.mapdb_script.specs.Accepting.{heard}
 use Rattle.mapdb_script.specs.Answering.{Answered, ScriptCluster, LineDone, Refused, happened, line_done, loaded}
@@ -141,6 +141,7 @@ merge_told c into all copies taken result apart sent whole told =
     let differ : (into == all.sender) ≡ false = grind (arith, nat_tests) in
     let done : happened c (event.Join into all.sender) ≡ Ok (line_done c (Happens (event.Join into all.sender) Enough) (taken_at c.net Enough into other.ops one)) =
     rw (some, sent.there, sent.other_there, differ) refl in
-    let takes : TakesPart sent.known other.ops taken one sent.after = subst (λ (ops : List Op). TakesPart sent.known ops taken one sent.after) whole sent.takes in
+    let takes : Takes (drop sent.known other.ops) (take_outcome one.ops other.ops) taken one sent.after =
+    subst (λ (ops : List Op). Takes (drop sent.known ops) (take_outcome one.ops ops) taken one sent.after) whole sent.takes.takes in
     rw (done, sent.kept) (taken_told c (Happens (event.Join into all.sender) Enough) into one sent.after other.ops (drop sent.known other.ops) (take_outcome one.ops other.ops) taken result sent.there
     (take_cases (drop sent.known other.ops) (take_outcome one.ops other.ops) taken one sent.after takes) told)

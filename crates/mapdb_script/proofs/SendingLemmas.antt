@@ -1,32 +1,36 @@
 -- What messages have stays what it is, and to take what is behind a mark comes to what taking all does.
-use Rattle.std.proofs.Common.{◌≡◌, ℕ, ◌++◌, ◌∷◌, ◌<◌, ◌≤◌, ◌+◌, ◌-◌, All, List, [], ap, arith, drop, get_or, inl, inr, length, refl, slice_get, subst, suc, sym, take, true, zero, ◌∙◌}
+use Rattle.std.proofs.Common.{◌≡◌, ℕ, ◌++◌, ◌∷◌, ◌<◌, ◌≤◌, ◌+◌, ◌-◌, All, List, [], ap, arith, drop, get_or, inl, inr, length, refl, slice_get, subst, suc, sym, take, true, zero, ◌∙◌, append-nil}
 use Rattle.std.proofs.Math.ListN.{get_or-append, length-set}
 use Rattle.std.proofs.Math.Seq.{get_or-append_seam, set-append_seam}
 use Rattle.std.specs.List.{filter}
-use Rattle.std.specs.Prelude.{Result, Some, count_by, not, slice_set, ◌==◌}
-use Rattle.std.proofs.lemmas.Bool.{and_from, and_parts, cases_Bool, cond-false, eqb-true, not-true}
+use Rattle.std.specs.Prelude.{Result, Some, count_by, not, slice_set, ◌==◌, Err, Ok, OnOk, is_ok, max, nat_le}
+use Rattle.std.proofs.lemmas.Bool.{and_from, and_parts, cases_Bool, cond-false, eqb-true, leb-false, leb-true, not-true}
 use Rattle.std.proofs.lemmas.List.{drop_all, drop-append-le, length-append, length-drop, length-take-le, map-append, set-append_left, take-append-drop, take-append-le, take-take}
 use Rattle.std.proofs.Math.Seq.{take-length}
 use Rattle.std.proofs.lemmas.List.Elements.{All-head, All-tail, All-weaker, filter-append}
 use Rattle.std.proofs.lemmas.List.Sums.{length-filter}
 use Rattle.std.proofs.lemmas.Option.{slice_get_read}
 use Rattle.mapdb_facts.specs.Adding.{is_new}
-use Rattle.mapdb_facts.specs.State.{IsSound, state_of}
+use Rattle.mapdb_facts.specs.State.{IsSound, Rec, state_of}
+use Rattle.mapdb_facts.proofs.States.Joins.{atom_right}
 use Rattle.mapdb_facts.specs.WellFormed.{all_formed, is_formed}
 use Rattle.mapdb_facts.specs.declared.operations.Op.{Op}
 use Rattle.mapdb_replica.specs.Agreement.{knows_all}
 use Rattle.mapdb_replica.specs.Replica.{Log, news}
-use Rattle.mapdb_replica.specs.Taking.{first_bad, least_clash, take_outcome}
+use Rattle.mapdb_replica.specs.Taking.{Takes, first_bad, least_clash, take_outcome, too_many}
 use Rattle.mapdb_replica.specs.declared.faults.TakeFault.{TakeFault}
 use Rattle.mapdb_cluster.proofs.Steps.Slots.{one_there, set_here, set_other}
 use Rattle.mapdb_replica.proofs.Copies.Bounding.{formed_good}
+use Rattle.mapdb_replica.proofs.Calls.CallCases.{TakeCases, take_cases}
+use Rattle.mapdb_replica.proofs.News.NewsAtoms.{news_give}
+use Rattle.mapdb_replica.proofs.News.SoundTakes.{taken_parts, takes_are_sound}
 use Rattle.mapdb_replica.proofs.News.UnheldClashes.{least_clash-unheld}
 use Rattle.mapdb_replica.proofs.News.UnheldTurns.{news-unheld}
 use Rattle.mapdb_replica.proofs.Copies.Agreeing.{covers_known}
-use Rattle.mapdb_script.specs.Marks.{HoldsFirst}
-use Rattle.mapdb_script.specs.Sendings.{IsSent, TakesPart, TakesSent, known_among, ops_sent, messages_of, ops_between, sent_by}
+use Rattle.mapdb_script.specs.Marks.{HoldsFirst, IsMark, mark_of_two}
+use Rattle.mapdb_script.specs.Sendings.{IsSent, after_taking, TakesPart, TakesSent, known_among, ops_sent, messages_of, ops_between, sent_by}
 use Rattle.mapdb_script.specs.declared.sendings.Sending.{Sending}
-use Rattle.mapdb_script.proofs.MarkLemmas.{Grows}
+use Rattle.mapdb_script.proofs.MarkLemmas.{Grows, first_later, takes_grow, was_there}
 
 -- nothing is left of what is held
 none_left : (held ops : List Op) → knows_all held ops ≡ true → filter (is_new (state_of held)) ops ≡ []
@@ -132,6 +136,60 @@ own_held held sending sound formed ordered within =
     ap (take_outcome held) (sym (own_left held sending ordered within))
     ∙ outcome_behind held (ops_between sending.first sending.end held) (sending.end - sending.first) (own_part held sending sound ordered within) sound
     (formed_part sending.first sending.end held formed)
+
+-- ---- what is held once it was taken
+
+news_sound : (held batch : List Op) → IsSound (held ++ batch) → IsSound (held ++ news (state_of held) batch)
+news_sound held batch sound r s in_r in_s same = sound r s ((news_give held batch (Rec r)).0 in_r) ((news_give held batch (Rec s)).0 in_s) same
+
+news_known : (held batch ops : List Op) → IsSound held → take_outcome held batch ≡ Ok ops → knows_all (held ++ ops) batch ≡ true
+news_known held batch ops sound is =
+    let fresh = (taken_parts (first_bad 0 batch) (least_clash held batch) (too_many held batch) (news (state_of held) batch) ops is).3 in
+    subst (λ (xs : List Op). knows_all (held ++ xs) batch ≡ true) fresh
+    (covers_known (held ++ news (state_of held) batch) batch (news_sound held batch (takes_are_sound held batch ops sound is))
+    (λ atom has. (news_give held batch atom).1 (atom_right held batch atom has)))
+
+-- a copy holds all of a batch that it took, or of which it took what comes to the same
+pub held_after : (part batch : List Op) (taken : Result ℕ TakeFault) (old new : Log) → IsSound old.ops → Takes part (take_outcome old.ops batch) taken old new → OnOk taken (knows_all new.ops batch ≡ true)
+held_after part batch taken old new sound takes = by_case (take_outcome old.ops batch) taken refl (take_cases part (take_outcome old.ops batch) taken old new takes)
+  where
+    by_case : (outcome : Result (List Op) TakeFault) (taken : Result ℕ TakeFault) → take_outcome old.ops batch ≡ outcome → TakeCases part outcome taken old new → OnOk taken (knows_all new.ops batch ≡ true)
+    by_case (Ok ops) (Ok count) is cases = rw (cases.1) (news_known old.ops batch ops sound is)
+    by_case (Err why) (Ok count) is cases = absurd cases
+    by_case outcome (Err fault) is cases = tt
+
+known_joined : (held ops : List Op) (f k n : ℕ) → n ≤ f + k → knows_all held (take f ops) ≡ true → knows_all held (take k (drop f ops)) ≡ true → knows_all held (take n ops) ≡ true
+known_joined held ops zero k n less one two = known_front held ops n k (omega (arith, less)) two
+known_joined held ops (suc f) k zero less one two = refl
+known_joined held [] (suc f) k (suc n) less one two = refl
+known_joined held (op ∷ ops) (suc f) k (suc n) less one two =
+    let parts = and_parts (not (is_new (state_of held) op)) (knows_all held (take f ops)) one in
+    and_from (not (is_new (state_of held) op)) (knows_all held (take n ops)) parts.0 (known_joined held ops f k n (omega (arith, less)) parts.1 two)
+
+-- so many first operations of a list are held, and a part of it that begins among them
+more_known : (held ops : List Op) (mark : ℕ) (sending : Sending) → sending.first ≤ sending.end → sending.end ≤ length ops → sending.first ≤ mark
+    → HoldsFirst held mark ops → knows_all held (ops_between sending.first sending.end ops) ≡ true → HoldsFirst held (max mark sending.end) ops
+more_known held ops mark sending ordered within begins first part = elim (cases_Bool (nat_le mark sending.end)) [
+  | inl early ↦
+      let less = leb-true mark sending.end early in
+      let most : max mark sending.end ≡ sending.end = omega (arith, less) in
+      rw most (record {
+        within = within;
+        known = known_joined held ops sending.first (sending.end - sending.first) sending.end (omega (arith, ordered)) (known_front held ops sending.first mark begins first.known) part;
+      })
+  | inr late ↦
+      let less = leb-false mark sending.end late in
+      let most : max mark sending.end ≡ mark = omega (arith, less) in
+      rw most first
+]
+
+held_first : (held ops : List Op) (mark : ℕ) (sending : Sending) (taken : Result ℕ TakeFault) → sending.first ≤ sending.end → sending.end ≤ length ops
+    → HoldsFirst held mark ops → OnOk taken (knows_all held (ops_between sending.first sending.end ops) ≡ true) → HoldsFirst held (after_taking mark sending (is_ok taken)) ops
+held_first held ops mark sending (Err fault) ordered within first part = first
+held_first held ops mark sending (Ok count) ordered within first part = elim (cases_Bool (nat_le sending.first mark)) [
+  | inl begins ↦ rw begins (more_known held ops mark sending ordered within (leb-true sending.first mark begins) first part)
+  | inr not_yet ↦ rw not_yet first
+]
 
 -- ---- messages stay
 
@@ -253,3 +311,32 @@ module _ (copies front back : List Log) (into known : ℕ) (sending : Sending) (
     takes = takes;
     kept = rw cut (set_back front back into after e some);
   }
+
+-- what is noted of a copy and the one whose sending it took
+pub mark_after : (copies new : List Log) (into mark : ℕ) (sending : Sending) (taken : Result ℕ TakeFault) → IsSent copies sending → IsMark copies (mark_of_two into sending.sender mark)
+    → TakesSent copies into sending taken new → IsMark new (mark_of_two into sending.sender (after_taking mark sending (is_ok taken)))
+mark_after copies new into mark sending taken sent so takes = subst (λ (logs : List Log). IsMark logs (mark_of_two into sending.sender known)) (sym takes.kept) now
+  where
+    known : ℕ
+    known = after_taking mark sending (is_ok taken)
+
+    grows : Grows takes.one takes.after
+    grows = takes_grow _ _ taken takes.one takes.after takes.takes.takes
+
+    held : HoldsFirst takes.after.ops known takes.other.ops
+    held =
+        let before = so takes.one takes.other takes.there takes.other_there in
+        let long : sending.end ≤ length takes.other.ops = sent.within takes.other takes.other_there in
+        held_first takes.after.ops takes.other.ops mark sending taken sent.ordered long
+        (subst (λ (ops : List Op). HoldsFirst ops mark takes.other.ops) (sym grows.is) (subst (λ (ops : List Op). HoldsFirst (takes.one.ops ++ grows.more) mark ops) (append-nil takes.other.ops)
+        (first_later takes.one.ops grows.more takes.other.ops [] mark before)))
+        takes.takes.held
+
+    now : IsMark (slice_set copies into takes.after) (mark_of_two into sending.sender known)
+    now = λ a b a_there b_there.
+        let is_after : takes.after ≡ a = one_there (slice_set copies into takes.after) into takes.after a (set_here copies into takes.one takes.after takes.there) a_there in
+        let was = was_there copies into takes.one takes.after takes.there grows sending.sender b b_there in
+        let is_other : was.before ≡ takes.other = one_there copies sending.sender was.before takes.other was.there takes.other_there in
+        let longer : b.ops ≡ takes.other.ops ++ was.grows.more = was.grows.is ∙ ap (λ (log : Log). log.ops ++ was.grows.more) is_other in
+        subst (λ (log : Log). HoldsFirst log.ops known b.ops) is_after (rw longer (subst (λ (ops : List Op). HoldsFirst ops known (takes.other.ops ++ was.grows.more)) (append-nil takes.after.ops)
+        (first_later takes.after.ops [] takes.other.ops was.grows.more known held)))

@@ -1,5 +1,7 @@
 -- How much of each other's lists copies are known to hold.
-use Rattle.std.specs.Prelude.{◌≡◌, ◌≤◌, ℕ, List, Some, length, slice_get, take, true}
+use Rattle.std.specs.Prelude.{◌≡◌, ◌≤◌, ℕ, List, None, Option, Some, get_or, length, slice_get}
+use Rattle.std.specs.Prelude.{take, true}
+use Rattle.std.specs.Global.{Vec}
 use Rattle.mapdb_facts.specs.declared.operations.Op.{Op}
 use Rattle.mapdb_replica.specs.Agreement.{knows_all}
 use Rattle.mapdb_replica.specs.Replica.{Log}
@@ -18,3 +20,16 @@ IsMark copies mark = (one other : Log) → slice_get copies mark.at ≡ Some one
 -- a mark of two copies
 abbrev pub mark_of_two : ℕ → ℕ → ℕ → Mark
 mark_of_two at other known = record { at = at; other = other; known = known }
+
+-- what is noted of a copy and another one, by its row
+abbrev pub known_in : Option (Vec ℕ) → ℕ → ℕ
+known_in None other = 0
+known_in (Some row) other = get_or row.items other 0
+
+-- and by the rows of all copies
+abbrev pub known_at : List (Vec ℕ) → ℕ → ℕ → ℕ
+known_at rows at other = known_in (slice_get rows at) other
+
+-- what is noted of any two copies is so
+abbrev pub AreMarks : List Log → List (Vec ℕ) → Type 0
+AreMarks copies rows = (at other : ℕ) → IsMark copies (mark_of_two at other (known_at rows at other))

@@ -1,7 +1,9 @@
 -- What messages have: parts of the lists of the copies that sent them.
 use Rattle.std.specs.Prelude.{◌≡◌, ◌≤◌, ◌<◌, ℕ, ◌-◌, List, [], Option, None, Some, Result, drop, length}
-use Rattle.std.specs.Prelude.{map, min, slice_get, slice_set, take}
+use Rattle.std.specs.Prelude.{Bool, OnOk, map, max, min, nat_le, slice_get, slice_set, take, true}
+use Rattle.std.specs.Prelude.{◌&&◌, if◌then◌else◌}
 use Rattle.mapdb_facts.specs.declared.operations.Op.{Op}
+use Rattle.mapdb_replica.specs.Agreement.{knows_all}
 use Rattle.mapdb_replica.specs.Replica.{Log}
 use Rattle.mapdb_replica.specs.Taking.{Takes, take_outcome}
 use Rattle.mapdb_replica.specs.declared.faults.TakeFault.{TakeFault}
@@ -35,11 +37,18 @@ pub record IsSent (copies : List Log) (sending : Sending) : Type 0 where
 abbrev pub known_among : Sending → ℕ → ℕ
 known_among sending mark = min mark sending.end - sending.first
 
+-- How many first ones of that list are known to be held once a sending was taken, or was not: all in
+-- front of its end, where it begins among those that were known.
+abbrev pub after_taking : ℕ → Sending → Bool → ℕ
+after_taking mark sending is_taken =
+    if is_taken && nat_le sending.first mark then max mark sending.end else mark
+
 -- What a copy leaves that took a batch behind so many first operations, which it holds: it comes to
--- what taking all of them does.
-abbrev pub TakesPart : ℕ → List Op → Result ℕ TakeFault → Log → Log → Type 0
-TakesPart known batch taken old new =
-    Takes (drop known batch) (take_outcome old.ops batch) taken old new
+-- what taking all of them does. Once it took them it holds them all.
+pub record TakesPart (known : ℕ) (batch : List Op) (taken : Result ℕ TakeFault) (old new : Log)
+    : Type 0 where
+  pub takes : Takes (drop known batch) (take_outcome old.ops batch) taken old new
+  pub held : OnOk taken (knows_all new.ops batch ≡ true)
 
 -- One of the copies did so with a sending of another one, and the others stayed.
 pub record TakesSent (copies : List Log) (into : ℕ) (sending : Sending) (taken : Result ℕ TakeFault)

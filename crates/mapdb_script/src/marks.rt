@@ -1,14 +1,14 @@
 //! How much of each other's lists copies are known to hold. Lists only grow, and what is held stays
 //! held: so what was found out of two copies stays true, and is not looked up again.
 
-ghost use Rattle.std.specs.Prelude.{◌≡◌, ◌==◌, All, List, length};
+ghost use Rattle.std.specs.Prelude.{◌≡◌, ◌==◌, IfOk, List, length};
 ghost use Rattle.mapdb_replica.specs.Agreement.{knows_all};
 ghost use Rattle.mapdb_replica.specs.Replica.{Log};
-ghost use Rattle.mapdb_script.specs.Marks.{HoldsFirst, IsMark, mark_of_two};
+ghost use Rattle.mapdb_script.specs.Marks.{AreMarks, HoldsFirst, IsMark, known_at};
 
 use mapdb_facts::Op;
 use mapdb_replica::Replica;
-use std::alloc::AllocError;
+use std::alloc::{AllocError, Global};
 
 /// A copy is known to hold so many first operations of another one's list.
 #[derive(Clone, Copy, Debug)]
@@ -21,35 +21,39 @@ pub(crate) struct Mark {
     pub(crate) known: usize,
 }
 
-/// How many first operations of another copy's list a copy is known to hold: none, where nothing
-/// was noted of the two. What is noted is a matter of speed alone.
-pub(crate) fn known_of(marks: &[Mark], at: usize, other: usize) -> usize
-    ensures { (copies : List Log) → All (IsMark copies) marks.now
-        → IsMark copies (mark_of_two at other result) }
+/// Nothing is known of any two of so many copies: a row for each copy, with a number for each other
+/// one. An error where memory ran out.
+pub(crate) fn none_known(alloc: Global, count: usize) -> Result<Vec<Vec<usize>>, AllocError>
+    ensures { IfOk result (λ rows. (copies : List Log) → AreMarks copies rows.items) }
 {
-    for mark in marks {
-        if mark.at == at && mark.other == other {
-            return mark.known;
-        }
+    let mut rows = Vec::new(alloc);
+    for _copy in 0..count {
+        rows.push(vec![in alloc; 0; count]?)?;
     }
-    0
+    Ok(rows)
 }
 
-/// Notes a mark, in place of the one that is noted of the same two copies. An error where memory
-/// ran out.
-pub(crate) fn note(marks: &mut Vec<Mark>, mark: Mark) -> Result<(), AllocError>
-    ensures { (copies : List Log) → All (IsMark copies) marks.old.items → IsMark copies mark
-        → All (IsMark copies) marks.new.items }
+/// How many first operations of another copy's list a copy is known to hold: none, where there is
+/// no place for it. What is noted is a matter of speed alone.
+pub(crate) fn known_of(rows: &[Vec<usize>], at: usize, other: usize) -> usize
+    ensures { result ≡ known_at rows.now at other }
 {
-    let len = marks.len();
-    for place in 0..len {
-        if marks[place].at == mark.at && marks[place].other == mark.other {
-            marks[place] = mark;
-            return Ok(());
-        }
+    let Some(row) = rows.get(at) else {
+        return 0;
+    };
+    if other < row.len() { row[other] } else { 0 }
+}
+
+/// Notes a mark in place of what was noted of the two copies; or nothing, where there is no place
+/// for it.
+pub(crate) fn note(rows: &mut Vec<Vec<usize>>, mark: Mark)
+    ensures { (copies : List Log) → AreMarks copies rows.old.items → IsMark copies mark
+        → AreMarks copies rows.new.items }
+{
+    if mark.at >= rows.len() || mark.other >= rows[mark.at].len() {
+        return;
     }
-    marks.push(mark)?;
-    Ok(())
+    rows[mark.at][mark.other] = mark.known;
 }
 
 /// How many first operations of the list the copy holds, which is known to hold so many of them:

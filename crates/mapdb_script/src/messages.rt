@@ -3,7 +3,7 @@
 use crate::answering::{Reply, ScriptCluster};
 use crate::marks::{Mark, known_from, known_of, note};
 use crate::replies::Refusal;
-use crate::sendings::{Sending, take_sending};
+use crate::sendings::{Sending, known_after, take_sending};
 use crate::turn_fault::TurnFault;
 use mapdb_cluster::SentMessage;
 use mapdb_lines::LineFault;
@@ -19,7 +19,7 @@ impl ScriptCluster {
     ghost use Rattle.mapdb_script.specs.Accepting.{Accepted};
     ghost use Rattle.mapdb_script.specs.Answering.{compared, covers_answer, happened, same_answer};
     ghost use Rattle.mapdb_script.specs.Sendings.{IsSent, ops_sent};
-    ghost use Rattle.mapdb_script.specs.States.{Does, beside, net_of};
+    ghost use Rattle.mapdb_script.specs.States.{Does, TellsTaken, beside, net_of};
 
     /// The places of two processors' copies, if the cluster has both.
     fn places(&self, at: u8, other: u8) -> Result<Option<(usize, usize)>, LineFault>
@@ -78,6 +78,21 @@ impl ScriptCluster {
         Ok(Reply::Sent(sent))
     }
 
+    /// Has a copy take what one of them sent, behind what it is known to hold of it, and notes what
+    /// it holds then.
+    fn take(&mut self, at: usize, sending: Sending) -> Result<Reply, TurnFault>
+        requires at { at < length self.old.copies.items }
+        requires sent { IsSent self.old.copies.items sending }
+        ensures { TellsTaken self.old at sending result self.new }
+    {
+        let mark = known_of(self.marks.as_slice(), at, sending.sender);
+        let taken = take_sending(self.copies.as_mut_slice(), at, sending, mark);
+        let known = known_after(mark, sending, taken.is_ok());
+        let other = sending.sender;
+        note(&mut self.marks, Mark { at, other, known });
+        Reply::taken(taken)
+    }
+
     /// Brings a message to a processor, whose copy takes its operations.
     pub(crate) fn deliver(&mut self, message: u32, at: u8) -> Result<Reply, TurnFault>
         ensures { (accepted : Accepted) → Does result (net_of self.new)
@@ -89,9 +104,7 @@ impl ScriptCluster {
         let Some(&sending) = self.messages.as_slice().get(message as usize) else {
             return Ok(Reply::Refused(Refusal::NoMessage));
         };
-        let mark = known_of(self.marks.as_slice(), at, sending.sender);
-        let taken = take_sending(self.copies.as_mut_slice(), at, sending, mark);
-        Reply::taken(taken)
+        self.take(at, sending)
     }
 
     /// Has a processor's copy take all that another one's holds, in its order of arrival.
@@ -110,30 +123,26 @@ impl ScriptCluster {
             first: 0,
             end: self.copies[from].ops().len(),
         };
-        let mark = known_of(self.marks.as_slice(), into, from);
-        let taken = take_sending(self.copies.as_mut_slice(), into, all, mark);
-        let reply = Reply::taken(taken)?;
-        let _covers = self.covered(into, from)?;
-        Ok(reply)
+        self.take(into, all)
     }
 
     /// Whether the copy at one place holds all that the one at another holds: what is known of them
     /// is not looked up again, and what is found out now is noted.
-    fn covered(&mut self, at: usize, other: usize) -> Result<bool, AllocError>
+    fn covered(&mut self, at: usize, other: usize) -> bool
         requires at { at < length self.old.copies.items }
         requires other { other < length self.old.copies.items }
         ensures kept { net_of self.new ≡ net_of self.old }
-        ensures covers { IfOk result (λ covers. (one : Log) × (two : Log)
+        ensures covers { (one : Log) × (two : Log)
             × (slice_get (net_of self.old).copies at ≡ Some one)
             × (slice_get (net_of self.old).copies other ≡ Some two)
-            × (covers ≡ knows_all one.ops two.ops)) }
+            × (result ≡ knows_all one.ops two.ops) }
     {
         let mark = known_of(self.marks.as_slice(), at, other);
         let ops = self.copies[other].ops();
         let known = known_from(&self.copies[at], ops, mark);
         let covers = known == ops.len();
-        note(&mut self.marks, Mark { at, other, known })?;
-        Ok(covers)
+        note(&mut self.marks, Mark { at, other, known });
+        covers
     }
 
     /// Asks whether the copies of two processors hold the same.
@@ -144,11 +153,11 @@ impl ScriptCluster {
         let Some((at, other)) = self.places(at, other)? else {
             return Ok(Reply::Refused(Refusal::NoProcessor));
         };
-        let covers = self.covered(at, other)?;
+        let covers = self.covered(at, other);
         if !covers {
             return Ok(Reply::Same(false));
         }
-        let covered = self.covered(other, at)?;
+        let covered = self.covered(other, at);
         Ok(Reply::Same(covered))
     }
 
@@ -160,7 +169,7 @@ impl ScriptCluster {
         let Some((at, other)) = self.places(at, other)? else {
             return Ok(Reply::Refused(Refusal::NoProcessor));
         };
-        let covers = self.covered(at, other)?;
+        let covers = self.covered(at, other);
         Ok(Reply::Covers(covers))
     }
 }

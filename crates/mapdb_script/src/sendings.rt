@@ -5,7 +5,8 @@ ghost use Rattle.std.specs.Prelude.{◌≡◌, ◌≤◌, ◌<◌, ◌-◌, List
 ghost use Rattle.mapdb_facts.specs.WellFormed.{all_formed};
 ghost use Rattle.mapdb_replica.specs.Replica.{Log};
 ghost use Rattle.mapdb_script.specs.Marks.{HoldsFirst};
-ghost use Rattle.mapdb_script.specs.Sendings.{IsSent, TakesPart, TakesSent, known_among, ops_between};
+ghost use Rattle.mapdb_script.specs.Sendings.{IsSent, TakesPart, TakesSent, after_taking, known_among};
+ghost use Rattle.mapdb_script.specs.Sendings.{ops_between};
 
 use mapdb_facts::Op;
 use mapdb_replica::{Replica, TakeFault};
@@ -62,6 +63,18 @@ fn take_own(copy: &mut Replica, sending: Sending) -> Result<u32, TakeFault>
     // The proof needs that what the copy holds is sound, as above.
     let _held = copy.ops();
     copy.take(&[])
+}
+
+/// How many first operations of a sender's list a copy is known to hold once it took a part of it,
+/// or did not take it.
+pub(crate) fn known_after(mark: usize, sending: Sending, is_taken: bool) -> usize
+    ensures { result ≡ after_taking mark sending is_taken }
+{
+    if is_taken && sending.first <= mark {
+        mark.max(sending.end)
+    } else {
+        mark
+    }
 }
 
 /// One of the copies takes what one of them sent, of whose list it holds so many first operations.

@@ -1,4 +1,5 @@
 use Rattle.std.proofs.Common.{sym}
+use Rattle.mapdb_script.specs.Marks.{IsMark, mark_of_two}
 use Rattle.mapdb_script.proofs.AnsweringLemmas.{at_there}
 use Rattle.mapdb_script.proofs.MarkLemmas.{mark_found}
 use Rattle.mapdb_script.proofs.answering.ScriptCluster.covered.Goals as goal
@@ -8,7 +9,8 @@ known_from-known-requires c =
     let copies = c.args.self.now.copies.items in
     let one_there = (at_there copies c.args.at c.index-2.result.now c.requires.at c.index-2.ensures).1 in
     let two_there = (at_there copies c.args.other c.index.result.now c.requires.other c.index.ensures).1 in
-    rw (c.ops-ops.ensures.ops) (c.known_of-mark.ensures copies (rw (c.as_slice.ensures.value) c.args.self.now.marked) c.index-2.result.now c.index.result.now one_there two_there)
+    let so : IsMark copies (mark_of_two c.args.at c.args.other c.known_of-mark.result) = rw (c.known_of-mark.ensures, c.as_slice.ensures.value) (c.args.self.now.marked c.args.at c.args.other) in
+    rw (c.ops-ops.ensures.ops) (so c.index-2.result.now c.index.result.now one_there two_there)
 
 pub invariant_of-self : goal.invariant_of-self
 invariant_of-self c =
