@@ -63,16 +63,12 @@ pub fn space_text(alloc: Global, space: Space) -> Result<String, AllocError>
 }
 
 /// The hexadecimal digit of a value below sixteen, in lower case.
-fn hexadecimal_digit(value: u8) -> u8
+fn hexadecimal_digit(value: u32) -> char
     requires { value < 16 }
     ensures digit { result ≡ digit_glyph false value }
     ensures ascii { result < 128 }
 {
-    if value < 10 {
-        b'0' + value
-    } else {
-        b'a' - 10 + value
-    }
+    char::from_digit(value, 16).unwrap()
 }
 
 /// Writes the last `count` hexadecimal digits of a number behind a text. The only error is that
@@ -84,7 +80,7 @@ fn push_digits(text: &mut String, number: u64, count: u32) -> Result<(), AllocEr
 {
     for place in (0..count).rev() {
         let digit = (number >> (4 * place)) % 16;
-        text.push(char::from(hexadecimal_digit(digit as u8)))?;
+        text.push(hexadecimal_digit(digit as u32))?;
     }
     Ok(())
 }
