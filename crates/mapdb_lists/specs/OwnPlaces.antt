@@ -20,6 +20,11 @@ abbrev pub own_list : OwnPlaces → List OwnPlace
 own_list (Few list) = list.items
 own_list (Many many) = many.places
 
+-- the places of the owner as they came, where they are a few
+abbrev pub few_list : OwnPlaces → Option (List OwnPlace)
+few_list (Few list) = Some list.items
+few_list (Many many) = None
+
 -- the least of the places that pass a test
 pub record IsLeastPlace (test : OwnPlace → Bool) (places : List OwnPlace) (p : OwnPlace)
     : Type 0 where

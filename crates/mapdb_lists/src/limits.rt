@@ -8,7 +8,7 @@ pub(crate) const FEW_CHANGES: usize = 32;
 pub(crate) const ROOM_FOR_CHANGES: usize = 2;
 
 /// How many places are looked through one by one; more stand in their order.
-pub(crate) const FEW_PLACES: usize = 24;
+pub(crate) const FEW_PLACES: usize = 32;
 
 /// How many places stand in a list that is halved; more stand in a tree.
 pub(crate) const SOME_PLACES: usize = 256;

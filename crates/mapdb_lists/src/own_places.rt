@@ -4,11 +4,13 @@ ghost use Rattle.std.specs.Prelude.{◌≡◌, ◌≤◌, ◌<◌, ◌-◌, ◌^
 ghost use Rattle.std.specs.Prelude.{not, option_map};
 ghost use Rattle.std.specs.BTreeMap.{is_at};
 ghost use Rattle.std.specs.BTreeMap.Range.{is_from_start};
+ghost use Rattle.std.specs.Option.{option_copied};
 ghost use Rattle.std.specs.Ordering.{is_lt};
 ghost use Rattle.std.specs.declared.ops.Bound.TheVariants.{Excluded, Included};
 ghost use Rattle.mapdb_lists.specs.OwnPlaces.{AreAligned, IsAlignedPlace, IsFirstPlaceWhere};
 ghost use Rattle.mapdb_lists.specs.OwnPlaces.{IsNextPlace, found_place, IsSweptOn, ahead, at_start};
-ghost use Rattle.mapdb_lists.specs.OwnPlaces.{many_ahead, own_list, own_meets, place_cmp, stands};
+ghost use Rattle.mapdb_lists.specs.OwnPlaces.{few_list, many_ahead, own_list, own_meets, place_cmp};
+ghost use Rattle.mapdb_lists.specs.OwnPlaces.{stands};
 ghost use Rattle.mapdb_lists.specs.declared.own_places.OwnPlace.{OwnPlace};
 
 use crate::few_places::{few_remove, least_inside, least_meeting, next_of_few};
@@ -45,12 +47,11 @@ pub(crate) fn pages_of_order(order: u8) -> u64
 impl OwnPlace {
     /// Whether a page of the place lies among the pages from `first` on up to before `end`.
     #[inline(always)]
-    pub(crate) fn meets(&self, first: u64, end: u64) -> bool
+    pub fn meets(&self, first: u64, end: u64) -> bool
         requires { IsAlignedPlace self.now }
         ensures { result ≡ own_meets self.now first end }
     {
-        let own_end = self.first + pages_of_order(self.order);
-        self.first.max(first) < own_end.min(end)
+        first < end && self.first < end && first < self.first + pages_of_order(self.order)
     }
 
     /// Whether the place comes before another.
@@ -214,6 +215,17 @@ impl OwnPlaces {
         match self {
             OwnPlaces::Few(list) => least_meeting(list.as_slice(), first, end, after),
             OwnPlaces::Many(many) => place_of(many.next_meeting(first, end, after, 0)),
+        }
+    }
+
+    /// These places, where they are a few: a walk over them keeps nothing but its index.
+    #[inline(always)]
+    pub fn few(&self) -> Option<&[OwnPlace]>
+        ensures { option_copied result ≡ few_list self.now }
+    {
+        match self {
+            OwnPlaces::Few(list) => Some(list.as_slice()),
+            OwnPlaces::Many(_) => None,
         }
     }
 

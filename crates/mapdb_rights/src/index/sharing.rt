@@ -20,13 +20,33 @@ ghost use Rattle.mapdb_rights.specs.Meeting.{IsUnnamed, is_named, record_if, sha
 
 use mapdb_facts::{Facts, Record, RecordId};
 use mapdb_fpage::Fpage;
-use mapdb_lists::{OwnPlaces, Owner, Places, Sweep};
+use mapdb_lists::{OwnPlace, OwnPlaces, Owner, Places, Sweep};
 use smallvec::SmallVec;
 use std::alloc::{AllocError, Global};
 
-/// Adds the names of all places that meet the pages from `first` on up to before `end`, as they
-/// come.
-fn add_names_of(
+/// Adds the names of those of a few places that meet the pages from `first` on up to before `end`.
+fn add_few_names(
+    names: &mut SmallVec<RecordId, 1>,
+    places: &[OwnPlace],
+    first: u64,
+    end: u64,
+) -> Result<(), AllocError>
+    requires { AreAligned places.now }
+    ensures kept { OnOk result ((id : RecordId) → is_named names.old.items id ≡ true
+        → is_named names.new.items id ≡ true) }
+    ensures named { OnOk result ((p : OwnPlace) → stands places.now p ≡ true
+        → own_meets p first end ≡ true → is_named names.new.items p.id ≡ true) }
+{
+    for place in places {
+        if place.meets(first, end) {
+            names.push(place.id)?;
+        }
+    }
+    Ok(())
+}
+
+/// Adds the names of those of many places that meet the pages from `first` on up to before `end`.
+fn add_many_names(
     names: &mut SmallVec<RecordId, 1>,
     own: &OwnPlaces,
     first: u64,
@@ -44,6 +64,26 @@ fn add_names_of(
         sweep = next.sweep;
     }
     Ok(())
+}
+
+/// Adds the names of all places that meet the pages from `first` on up to before `end`, as they
+/// come.
+fn add_names_of(
+    names: &mut SmallVec<RecordId, 1>,
+    own: &OwnPlaces,
+    first: u64,
+    end: u64,
+) -> Result<(), AllocError>
+    requires { AreAligned (own_list own.now) }
+    ensures kept { OnOk result ((id : RecordId) → is_named names.old.items id ≡ true
+        → is_named names.new.items id ≡ true) }
+    ensures named { OnOk result ((p : OwnPlace) → stands (own_list own.now) p ≡ true
+        → own_meets p first end ≡ true → is_named names.new.items p.id ≡ true) }
+{
+    match own.few() {
+        Some(places) => add_few_names(names, places, first, end),
+        None => add_many_names(names, own, first, end),
+    }
 }
 
 /// Adds the names of all entries of the owner that meet the pages of a place.

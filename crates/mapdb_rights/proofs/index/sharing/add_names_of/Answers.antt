@@ -1,9 +1,9 @@
-use Rattle.std.proofs.Common.{inl}
-use Rattle.mapdb_lists.proofs.PlaceLemmas.OwnSweeps.{start_ahead}
+use Rattle.std.proofs.Common.{sym, subst, List}
+use Rattle.mapdb_lists.specs.declared.own_places.OwnPlace.{OwnPlace}
+use Rattle.mapdb_lists.specs.OwnPlaces.{AreAligned}
+use Rattle.mapdb_lists.proofs.PlaceLemmas.OwnSweeps.{few_are_all}
 use Rattle.mapdb_rights.proofs.index.sharing.add_names_of.Goals as goal
 
-pub places-init : goal.places-init
-places-init c = record {
-  kept = λ id has. has;
-  named = λ p has meeting. inl (start_ahead c.args.own.now c.start-sweep.result c.start-sweep.ensures p has);
-}
+pub add_few_names-requires : goal.add_few_names-requires
+add_few_names-requires c =
+    subst (λ (places : List OwnPlace). AreAligned places) (sym (few_are_all c.args.own.now c.in-Some.places.now c.in-Some.ensures)) c.requires

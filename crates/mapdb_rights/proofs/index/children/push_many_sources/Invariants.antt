@@ -10,7 +10,7 @@ use Rattle.mapdb_lists.specs.OwnPlaces.{ahead, own_list, stands}
 use Rattle.mapdb_rights.specs.Right.{source_page}
 use Rattle.mapdb_rights.specs.HeldPlaces.{source_of}
 use Rattle.mapdb_rights.specs.Pending.{IsPending, share, weight}
-use Rattle.mapdb_rights.proofs.index.children.push_sources.Given as goal
+use Rattle.mapdb_rights.proofs.index.children.push_many_sources.Given as goal
 
 -- each child that meets the pages comes later, or its pages are stale
 abbrev pub invariant-children : goal.invariant-children

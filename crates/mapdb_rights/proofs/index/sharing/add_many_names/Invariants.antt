@@ -4,7 +4,7 @@ use Rattle.mapdb_facts.specs.declared.names.RecordId.{RecordId}
 use Rattle.mapdb_lists.specs.declared.own_places.OwnPlace.{OwnPlace}
 use Rattle.mapdb_lists.specs.OwnPlaces.{ahead, own_list, own_meets, stands}
 use Rattle.mapdb_rights.specs.Meeting.{is_named}
-use Rattle.mapdb_rights.proofs.index.sharing.add_names_of.Given as goal
+use Rattle.mapdb_rights.proofs.index.sharing.add_many_names.Given as goal
 
 -- each place that meets the pages comes later, or its name is there
 abbrev pub invariant-places : goal.invariant-places
