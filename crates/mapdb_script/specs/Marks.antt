@@ -32,4 +32,5 @@ known_at rows at other = known_in (slice_get rows at) other
 
 -- what is noted of any two copies is so
 abbrev pub AreMarks : List Log → List (Vec ℕ) → Type 0
-AreMarks copies rows = (at other : ℕ) → IsMark copies (mark_of_two at other (known_at rows at other))
+AreMarks copies rows = (at other : ℕ)
+    → IsMark copies (mark_of_two at other (known_at rows at other))

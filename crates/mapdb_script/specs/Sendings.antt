@@ -1,6 +1,6 @@
 -- What messages have: parts of the lists of the copies that sent them.
-use Rattle.std.specs.Prelude.{◌≡◌, ◌≤◌, ◌<◌, ℕ, ◌-◌, List, [], Option, None, Some, Result, drop, length}
-use Rattle.std.specs.Prelude.{Bool, OnOk, map, max, min, nat_le, slice_get, slice_set, take, true}
+use Rattle.std.specs.Prelude.{◌≡◌, ◌≤◌, ◌<◌, ℕ, ◌-◌, List, [], Option, None, Some, Result, drop}
+use Rattle.std.specs.Prelude.{Bool, OnOk, length, map, max, min, nat_le, slice_get, slice_set, take, true}
 use Rattle.std.specs.Prelude.{◌&&◌, if◌then◌else◌}
 use Rattle.mapdb_facts.specs.declared.operations.Op.{Op}
 use Rattle.mapdb_replica.specs.Agreement.{knows_all}
@@ -37,8 +37,8 @@ pub record IsSent (copies : List Log) (sending : Sending) : Type 0 where
 abbrev pub known_among : Sending → ℕ → ℕ
 known_among sending mark = min mark sending.end - sending.first
 
--- How many first ones of that list are known to be held once a sending was taken, or was not: all in
--- front of its end, where it begins among those that were known.
+-- How many first ones of that list are known to be held once a sending was taken, or was not: all
+-- in front of its end, where it begins among those that were known.
 abbrev pub after_taking : ℕ → Sending → Bool → ℕ
 after_taking mark sending is_taken =
     if is_taken && nat_le sending.first mark then max mark sending.end else mark

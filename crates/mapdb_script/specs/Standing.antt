@@ -1,7 +1,7 @@
 -- Whether processor 0's copy shows what the sequential tree of its commands has. That stands in
 -- place of the commands.
-use Rattle.std.specs.Prelude.{◌≡◌, ◌⊎◌, ◌↔◌, ◌+◌, ◌-◌, ℕ, Bool, true, false, not, List, Option, Some}
-use Rattle.std.specs.Prelude.{None, IfSome, IsTrue, slice_get}
+use Rattle.std.specs.Prelude.{◌≡◌, ◌⊎◌, ◌↔◌, ◌+◌, ◌-◌, ℕ, Bool, true, false, not, List, Option}
+use Rattle.std.specs.Prelude.{None, Some, IfSome, IsTrue, slice_get}
 use Rattle.mapdb_fpage.specs.Place.{holds}
 use Rattle.mapdb_fpage.specs.RightSets.{common, is_empty}
 use Rattle.mapdb_fpage.specs.Transfer.{transfer_of}

@@ -5,7 +5,8 @@ ghost use Rattle.std.specs.Prelude.{◌≡◌, ◌≤◌, ◌<◌, ◌-◌, List
 ghost use Rattle.mapdb_facts.specs.WellFormed.{all_formed};
 ghost use Rattle.mapdb_replica.specs.Replica.{Log};
 ghost use Rattle.mapdb_script.specs.Marks.{HoldsFirst};
-ghost use Rattle.mapdb_script.specs.Sendings.{IsSent, TakesPart, TakesSent, after_taking, known_among};
+ghost use Rattle.mapdb_script.specs.Sendings.{IsSent, TakesPart, TakesSent, after_taking};
+ghost use Rattle.mapdb_script.specs.Sendings.{known_among};
 ghost use Rattle.mapdb_script.specs.Sendings.{ops_between};
 
 use mapdb_facts::Op;
@@ -46,8 +47,8 @@ fn take_between(
     requires known { HoldsFirst copy.old.ops mark other.now.ops }
     requires ordered { sending.first ≤ sending.end }
     requires within { sending.end ≤ length other.now.ops }
-    ensures { TakesPart (known_among sending mark) (ops_between sending.first sending.end other.now.ops)
-        result copy.old copy.new }
+    ensures { TakesPart (known_among sending mark)
+        (ops_between sending.first sending.end other.now.ops) result copy.old copy.new }
 {
     let known = mark.min(sending.end).saturating_sub(sending.first);
     take_part(copy, &other.ops()[sending.first..sending.end], known)
