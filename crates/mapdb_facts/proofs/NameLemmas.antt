@@ -3,3 +3,4 @@ pub mod NearWords
 pub mod NamedEntries
 pub mod NamesInOrder
 pub mod NextNames
+pub mod OwnNames

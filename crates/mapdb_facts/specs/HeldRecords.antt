@@ -14,9 +14,9 @@ pub record IsGreatestName (records : Records) (name : Option RecordId) : Type 0 
   pub greatest : IfSome name (λ id. (q : RecordId) → IsSome (record_in records q)
       → is_lt (id_cmp id q) ≡ false)
 
--- one record alone, under a name
-abbrev pub one_under : RecordId → Record → Records
-one_under id r = (id, r) ∷ []
+-- one record alone, under its name
+abbrev pub one_record : Record → Records
+one_record r = (r.id, r) ∷ []
 
 -- different records of one name
 abbrev pub excludes_record : RecordId × Record → RecordId × Record → Type 0
@@ -27,14 +27,8 @@ abbrev pub IsClashAt : Records → Records → RecordId → Type 0
 IsClashAt a b id =
     IsFirstClash {P = Unit {0}} id_cmp same_record (λ x y. x ≢ y) (λ _ _ _. Unit {0}) a b (id, tt)
 
--- both hold a record under the name, and not the same one
-pub record DifferUnder (a b : Records) (id : RecordId) : Type 0 where
-  pub one : Record
+-- a different record stands under the record's name
+pub record HoldsAnother (records : Records) (r : Record) : Type 0 where
   pub other : Record
-  pub in_first : record_in a id ≡ Some one
-  pub in_second : record_in b id ≡ Some other
-  pub apart : one ≢ other
-
--- the first holds under the name what the second holds there
-abbrev pub CoversAt : Records → Records → RecordId → Type 0
-CoversAt a b id = (r : Record) → record_in b id ≡ Some r → record_in a id ≡ Some r
+  pub held : record_in records r.id ≡ Some other
+  pub apart : other ≢ r

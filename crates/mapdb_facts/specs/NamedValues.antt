@@ -1,10 +1,11 @@
 -- Values by the name of a record, and where a name stands among those that came.
 use Rattle.std.specs.Prelude.{◌≡◌, ℕ, suc, List, [], ◌∷◌, Option, Some, None, option_map}
 use Rattle.std.specs.Prelude.{if◌then◌else◌, ◌++◌, map}
-use Rattle.std.specs.List.{zip}
+use Rattle.std.specs.List.{All, zip}
 use Rattle.std.specs.Map.{lookup}
 use Rattle.mapdb_facts.specs.Names.{same_id}
 use Rattle.mapdb_facts.specs.declared.names.RecordId.{RecordId}
+use Rattle.mapdb_facts.specs.declared.operations.Record.{Record}
 
 -- the names with their values, in the order in which the names came
 pub record NamedValues (V : Type 0) : Type 0 where
@@ -13,6 +14,14 @@ pub record NamedValues (V : Type 0) : Type 0 where
 -- the values beside their names
 abbrev pub named : {V : Type 0} → List RecordId → List V → NamedValues V
 named names values = record { entries = zip names values }
+
+-- records beside their names, each under its own
+abbrev pub by_own_name : List Record → NamedValues Record
+by_own_name records = named (map (λ r. r.id) records) records
+
+-- each record is found by its name
+abbrev pub AreFoundByName : List Record → Type 0
+AreFoundByName records = All (λ r. lookup (same_id r.id) (by_own_name records).entries ≡ Some r) records
 
 -- the place of a name among those that came, where it is one of them
 abbrev pub place_of : RecordId → List RecordId → Option ℕ

@@ -1,14 +1,9 @@
 //! Values by the name of a record.
 
-ghost use Rattle.std.specs.Prelude.{◌≡◌, [], None, Some, IfSome, IsSome, MatchOption};
-ghost use Rattle.std.specs.Prelude.{OnOk, OnErr, length};
-ghost use Rattle.std.specs.BTreeMap.Range.{IsLeBy};
+ghost use Rattle.std.specs.Prelude.{◌≡◌, [], None, OnErr, OnOk};
 ghost use Rattle.std.specs.Map.{lookup};
 ghost use Rattle.std.specs.Option.{option_copied};
-ghost use Rattle.mapdb_join.specs.Keys.{IsAbove};
-ghost use Rattle.mapdb_facts.specs.Kept.{id_cmp};
 ghost use Rattle.mapdb_facts.specs.Names.{same_id};
-ghost use Rattle.mapdb_facts.specs.declared.names.RecordId.{RecordId};
 ghost use Rattle.mapdb_facts.specs.NamedValues.{IsInserted, names_of, with_name};
 
 use crate::name_list::NameList;
@@ -56,34 +51,6 @@ impl<V: Drop> ByName<V> {
             Some(at) => Some(&self.values[at]),
             None => None,
         }
-    }
-
-    /// How many names have a value.
-    pub fn len(&self) -> usize
-        ensures { result ≡ length self.now.entries }
-    {
-        self.values.len()
-    }
-
-    /// The names that have a value, in the order in which they came.
-    pub fn keys(&self) -> &[RecordId]
-        ensures { result.now ≡ names_of self.now }
-    {
-        self.names.as_slice()
-    }
-
-    /// The least name above another, or of all, that has a value.
-    pub fn next_name(&self, after: Option<RecordId>) -> Option<RecordId>
-        ensures none { MatchOption result
-            ((q : RecordId) → IsAbove id_cmp after q
-            → lookup (same_id q) self.now.entries ≡ None)
-            (λ _. Unit {0}) }
-        ensures found { IfSome result (λ id. IsAbove id_cmp after id
-            × IsSome (lookup (same_id id) self.now.entries)) }
-        ensures least { IfSome result (λ id. (q : RecordId) → IsAbove id_cmp after q
-            → IsSome (lookup (same_id q) self.now.entries) → IsLeBy id_cmp id q) }
-    {
-        self.names.next(after)
     }
 
     /// Gives a value to a name that has none, behind the others, where there are so many names

@@ -1,11 +1,6 @@
 //! Names of records in the order in which they came.
 
-ghost use Rattle.std.specs.Prelude.{◌≡◌, ◌++◌, ◌∷◌, [], None, IfSome, IsSome, MatchOption};
-ghost use Rattle.std.specs.Prelude.{OnOk, OnErr};
-ghost use Rattle.std.specs.BTreeMap.Range.{IsLeBy};
-ghost use Rattle.mapdb_join.specs.Keys.{IsAbove};
-ghost use Rattle.mapdb_facts.specs.Kept.{id_cmp};
-ghost use Rattle.mapdb_facts.specs.declared.names.RecordId.{RecordId};
+ghost use Rattle.std.specs.Prelude.{◌≡◌, ◌++◌, ◌∷◌, [], None, OnErr, OnOk};
 ghost use Rattle.mapdb_facts.specs.NamedValues.{place_of};
 
 use crate::name_places::NamePlaces;
@@ -56,19 +51,6 @@ impl NameList {
         ensures { result ≡ place_of id self.now }
     {
         self.places.get(id)
-    }
-
-    /// The least name above another, or of all.
-    pub fn next(&self, after: Option<RecordId>) -> Option<RecordId>
-        ensures none { MatchOption result
-            ((q : RecordId) → IsAbove id_cmp after q → place_of q self.now ≡ None)
-            (λ _. Unit {0}) }
-        ensures found { IfSome result (λ id. IsAbove id_cmp after id
-            × IsSome (place_of id self.now)) }
-        ensures least { IfSome result (λ id. (q : RecordId) → IsAbove id_cmp after q
-            → IsSome (place_of q self.now) → IsLeBy id_cmp id q) }
-    {
-        self.places.next(after)
     }
 
     /// Adds a name at the end, where there are so many names elsewhere: where these are many, one

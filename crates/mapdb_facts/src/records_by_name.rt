@@ -7,22 +7,22 @@ ghost use Rattle.std.specs.BTreeMap.Range.{IsLeBy};
 ghost use Rattle.std.specs.Ordering.{is_lt};
 ghost use Rattle.mapdb_join.specs.Atoms.{Clashes, HasNone, Includes, IsBetween, IsSame, IsUnion};
 ghost use Rattle.mapdb_join.specs.Keys.{IsAbove};
-ghost use Rattle.mapdb_facts.specs.HeldRecords.{CoversAt, DifferUnder, IsClashAt, IsGreatestName};
-ghost use Rattle.mapdb_facts.specs.HeldRecords.{excludes_record, one_under};
+ghost use Rattle.mapdb_facts.specs.HeldRecords.{HoldsAnother, IsClashAt, IsGreatestName};
+ghost use Rattle.mapdb_facts.specs.HeldRecords.{excludes_record, one_record};
 ghost use Rattle.mapdb_facts.specs.Kept.{has_record, id_cmp, record_in};
 ghost use Rattle.mapdb_facts.specs.declared.names.RecordId.{RecordId};
 
-use crate::by_name::ByName;
 use crate::names::RecordId;
 use crate::next_names::lesser;
 use crate::operations::Record;
+use crate::record_list::RecordList;
 use std::alloc::{AllocError, Global};
 use std::marker::Model;
 
 /// Records by name.
 #[derive(Drop)]
 pub struct RecordsByName {
-    by_name: ByName<Record>,
+    list: RecordList,
     /// The greatest name under which a record is held.
     greatest: Option<RecordId>,
     alloc: Global,
@@ -34,9 +34,9 @@ impl Model for RecordsByName {
 
     ghost Value = { Records };
 
-    ghost view = { λ a. a.by_name.entries };
+    ghost view = { λ a. a.list.entries };
 
-    ghost invariant = { λ a. IsGreatestName a.by_name.entries a.greatest };
+    ghost invariant = { λ a. IsGreatestName a.list.entries a.greatest };
 }
 
 /// The greater of a name and another, where there is one.
@@ -51,22 +51,22 @@ fn greater(name: Option<RecordId>, id: RecordId) -> RecordId
     }
 }
 
-/// Holds a record under a name that has none. An error where memory ran out, and then the same
-/// records are kept.
+/// Holds a record of a name that has none. An error where memory ran out, and then the same records
+/// are kept.
 fn add_new(
-    by_name: &mut ByName<Record>,
+    list: &mut RecordList,
     greatest: &mut Option<RecordId>,
-    id: RecordId,
     mapping: Record,
 ) -> Result<(), AllocError>
-    requires absent { record_in by_name.old.entries id ≡ None }
-    requires greatest { IsGreatestName by_name.old.entries greatest.old }
-    ensures greatest { IsGreatestName by_name.new.entries greatest.new }
-    ensures ok { OnOk result (IsUnion has_record by_name.old.entries (one_under id mapping)
-        by_name.new.entries) }
-    ensures err { OnErr result (by_name.new.entries ≡ by_name.old.entries) }
+    requires absent { record_in list.old.entries mapping.id ≡ None }
+    requires greatest { IsGreatestName list.old.entries greatest.old }
+    ensures greatest { IsGreatestName list.new.entries greatest.new }
+    ensures ok { OnOk result (IsUnion has_record list.old.entries (one_record mapping)
+        list.new.entries) }
+    ensures err { OnErr result (list.new.entries ≡ list.old.entries) }
 {
-    by_name.insert(id, mapping, 0)?;
+    let id = mapping.id;
+    list.add(mapping)?;
     *greatest = Some(greater(*greatest, id));
     Ok(())
 }
@@ -77,7 +77,7 @@ impl RecordsByName {
         ensures { result ≡ [] }
     {
         RecordsByName {
-            by_name: ByName::new(alloc),
+            list: RecordList::new(alloc),
             greatest: None,
             alloc,
         }
@@ -88,14 +88,14 @@ impl RecordsByName {
     pub(crate) fn get(&self, id: RecordId) -> Option<Record>
         ensures { result ≡ record_in self.now id }
     {
-        self.by_name.get(id).copied()
+        self.list.get(id).copied()
     }
 
     /// How many records are held.
     pub(crate) fn len(&self) -> usize
         ensures { result ≡ length self.now }
     {
-        self.by_name.len()
+        self.list.len()
     }
 
     /// The least name above another, or of all, under which a record is held.
@@ -108,7 +108,7 @@ impl RecordsByName {
         ensures least { IfSome result (λ id. (q : RecordId) → IsAbove id_cmp after q
             → IsSome (record_in self.now q) → IsLeBy id_cmp id q) }
     {
-        self.by_name.next_name(after)
+        self.list.next_name(after)
     }
 
     /// The greatest name under which a record is held.
@@ -122,26 +122,26 @@ impl RecordsByName {
         self.greatest
     }
 
-    /// Holds a record under a name that has none, or this very record. An error where memory ran
-    /// out, and then nothing has changed.
-    pub(crate) fn add(&mut self, id: RecordId, mapping: Record) -> Result<(), AllocError>
-        requires { IfSome (record_in self.old id) (λ held. held ≡ mapping) }
-        ensures ok { OnOk result (IsUnion has_record self.old (one_under id mapping) self.new) }
+    /// Holds a record of a name that has none, or this very record. An error where memory ran out,
+    /// and then nothing has changed.
+    pub(crate) fn add(&mut self, mapping: Record) -> Result<(), AllocError>
+        requires { IfSome (record_in self.old mapping.id) (λ held. held ≡ mapping) }
+        ensures ok { OnOk result (IsUnion has_record self.old (one_record mapping) self.new) }
         ensures err { OnErr result (self.new ≡ self.old) }
     {
-        if self.by_name.get(id).is_some() {
+        if self.list.get(mapping.id).is_some() {
             return Ok(());
         }
-        add_new(&mut self.by_name, &mut self.greatest, id, mapping)
+        add_new(&mut self.list, &mut self.greatest, mapping)
     }
 
-    /// Whether both hold different records under a name.
-    fn differs_at(&self, other: &RecordsByName, id: RecordId) -> bool
-        ensures { IsTrue result ↔ DifferUnder self.now other.now id }
+    /// Whether a different record is held under the record's name.
+    fn holds_another(&self, theirs: &Record) -> bool
+        ensures { IsTrue result ↔ HoldsAnother self.now theirs.now }
     {
-        match (self.get(id), other.get(id)) {
-            (Some(mine), Some(theirs)) => mine != theirs,
-            _ => false,
+        match self.get(theirs.id) {
+            Some(mine) => mine != *theirs,
+            None => false,
         }
     }
 
@@ -152,30 +152,27 @@ impl RecordsByName {
             × IsClashAt self.now other.now id) }
     {
         let mut least = None;
-        for id in other.by_name.keys() {
-            if self.differs_at(other, *id) {
-                least = lesser(least, Some(*id));
+        for theirs in other.list.as_slice() {
+            if self.holds_another(theirs) {
+                least = lesser(least, Some(theirs.id));
             }
         }
         least
     }
 
-    /// Whether these hold what the other holds under a name.
-    fn covers_at(&self, other: &RecordsByName, id: RecordId) -> bool
-        ensures { IsTrue result ↔ CoversAt self.now other.now id }
+    /// Whether this very record is held.
+    fn holds(&self, theirs: &Record) -> bool
+        ensures { IsTrue result ↔ (record_in self.now theirs.now.id ≡ Some theirs.now) }
     {
-        match other.get(id) {
-            Some(theirs) => self.get(id) == Some(theirs),
-            None => true,
-        }
+        self.get(theirs.id) == Some(*theirs)
     }
 
     /// Whether these hold each record that the other holds.
     pub(crate) fn covers(&self, other: &RecordsByName) -> bool
         ensures { IsTrue result ↔ Includes has_record self.now other.now }
     {
-        for id in other.by_name.keys() {
-            if !self.covers_at(other, *id) {
+        for theirs in other.list.as_slice() {
+            if !self.holds(theirs) {
                 return false;
             }
         }
@@ -196,10 +193,8 @@ impl RecordsByName {
         ensures ok { OnOk result (IsUnion has_record self.old other.now self.new) }
         ensures err { OnErr result (IsBetween has_record self.old other.now self.new) }
     {
-        for id in other.by_name.keys() {
-            if let Some(theirs) = other.get(*id) {
-                self.add(*id, theirs)?;
-            }
+        for theirs in other.list.as_slice() {
+            self.add(*theirs)?;
         }
         Ok(())
     }

@@ -16,8 +16,9 @@ use Rattle.mapdb_facts.specs.declared.operations.Revocation.{Revocation}
 use Rattle.mapdb_facts.specs.Exact.{exact_id}
 use Rattle.mapdb_facts.specs.Kept.{Cuts, IsFacts, Records, bit_of, has_cut, has_record, record_in}
 use Rattle.mapdb_facts.specs.WellFormed.{is_formed}
+use Rattle.mapdb_facts.specs.HeldRecords.{one_record}
 use Rattle.mapdb_facts.proofs.Maps.CutAtoms.{from_one_bit, one_cut}
-use Rattle.mapdb_facts.proofs.RecordLemmas.RecordAtoms.{atom_of_record, from_one_record, one_record, record_of_atom}
+use Rattle.mapdb_facts.proofs.RecordLemmas.RecordAtoms.{atom_of_record, from_one_record, record_of_atom}
 
 -- each held record is well-formed and stands under its name
 abbrev pub Formed : Records → Type 0

@@ -1,6 +1,6 @@
 -- What is found by a name among values beside their names.
-use Rattle.std.proofs.Common.{◌≡◌, ℕ, zero, suc, ◌<◌, List, [], ◌∷◌, ◌++◌, length, set, refl, ap, sym, ◌∙◌, Bool, true, false, cond, inl, inr, arith}
-use Rattle.std.specs.Prelude.{Option, None, Some, IfSome, IsSome, MatchOption, map, option_map, slice_get}
+use Rattle.std.proofs.Common.{◌≡◌, ℕ, suc, ◌<◌, List, [], ◌∷◌, ◌++◌, length, set, refl, ap, sym, ◌∙◌, Bool, true, false, cond, inl, inr, arith}
+use Rattle.std.specs.Prelude.{Option, None, Some, IfSome, IsSome, map, option_map, slice_get}
 use Rattle.std.specs.BTreeMap.Range.{IsLeBy}
 use Rattle.std.specs.Option.{is_some}
 use Rattle.std.specs.List.{zip}
@@ -156,12 +156,6 @@ names_zip [] values same = refl
 names_zip (name ∷ names) [] same = absurd (omega (arith, same))
 names_zip (name ∷ names) (value ∷ values) same = ap (λ behind. name ∷ behind) (names_zip names values (omega (arith, same)))
 
-pub names_set : {V : Type 0} (names : List RecordId) (values : List V) (at : ℕ) (value : V) → map (λ e. e.0) (zip names (set values at value)) ≡ map (λ e. e.0) (zip names values)
-names_set [] values at value = refl
-names_set (name ∷ names) [] at value = refl
-names_set (name ∷ names) (other ∷ values) zero value = refl
-names_set (name ∷ names) (other ∷ values) (suc at) value = ap (λ behind. name ∷ behind) (names_set names values at value)
-
 -- ---- the names that have values, in their order
 
 some_behind : (o : Option ℕ) → is_some (option_map suc o) ≡ is_some o
@@ -181,11 +175,6 @@ placed_valued (name ∷ names) (value ∷ values) id even =
     some_either (same_id id name) value (place_of id names) (lookup (same_id id) (zip names values)) (placed_valued names values id (omega (arith, even)))
 
 module _ {V : Type 0} (names : List RecordId) (values : List V) (even : length names ≡ length values) (after : Option RecordId) where
-  pub next_none : (r : Option RecordId) → MatchOption r ((q : RecordId) → IsAbove id_cmp after q → place_of q names ≡ None) (λ _. Unit {0})
-      → MatchOption r ((q : RecordId) → IsAbove id_cmp after q → lookup (same_id q) (zip names values) ≡ None) (λ _. Unit {0})
-  next_none None none = λ q above. sym (found_nowhere names values q (none q above))
-  next_none (Some id) none = tt
-
   pub next_found : (r : Option RecordId) → IfSome r (λ id. IsAbove id_cmp after id × IsSome (place_of id names))
       → IfSome r (λ id. IsAbove id_cmp after id × IsSome (lookup (same_id id) (zip names values)))
   next_found None found = tt

@@ -17,12 +17,12 @@ use Rattle.mapdb_facts.specs.declared.names.RecordId.{RecordId}
 use Rattle.mapdb_facts.specs.declared.operations.Record.{Record}
 use Rattle.mapdb_facts.specs.Adding.{same_record}
 use Rattle.mapdb_facts.specs.Exact.{exact_record}
-use Rattle.mapdb_facts.specs.HeldRecords.{CoversAt, DifferUnder, IsClashAt, IsGreatestName, excludes_record, one_under}
+use Rattle.mapdb_facts.specs.HeldRecords.{HoldsAnother, IsClashAt, IsGreatestName, excludes_record, one_record}
 use Rattle.mapdb_facts.specs.Kept.{Records, has_record, id_cmp, record_in}
 use Rattle.mapdb_facts.specs.NamedValues.{IsInserted, NamedValues}
 use Rattle.mapdb_facts.specs.Names.{same_id}
 use Rattle.mapdb_facts.proofs.Lists.Comparing.{exact_ids, id_at}
-use Rattle.mapdb_facts.proofs.Lists.SameNames.{same_id_itself}
+use Rattle.mapdb_facts.proofs.Lists.SameNames.{same_id_itself, some_same}
 use Rattle.mapdb_facts.proofs.NameLemmas.NextNames.{le_not_less, le_through, not_less_through}
 use Rattle.mapdb_facts.proofs.NameLemmas.NamesInOrder.{changed_from, found_by, id_total, one_lookup, with_found}
 use Rattle.mapdb_facts.proofs.RecordLemmas.RecordAtoms.{atom_of_record, record_of_atom}
@@ -68,7 +68,7 @@ module _ (old new : NamedValues Record) (id : RecordId) (r : Record) (put : IsIn
           let held : IsSome (record_in old.entries q) = sym (ap (λ b. is_some (cond b (Some r) (record_in old.entries q))) e) ∙ h in
           below last q (was.some q held) one was.greatest held
 
-  pub put_union : record_in old.entries id ≡ None → IsUnion has_record old.entries (one_under id r) new.entries
+  pub put_union : record_in old.entries id ≡ None → IsUnion has_record old.entries ((id, r) ∷ []) new.entries
   put_union absent = union_new exact_ids id_total same_record old.entries new.entries id r r absent (changed_from old.entries new.entries id r put) (λ x. refl)
 
 -- ---- the record is held already
@@ -77,9 +77,9 @@ twice : (b : Bool) → b ≡ (b || b)
 twice true = refl
 twice false = refl
 
-pub held_union : (records : Records) (id : RecordId) (r : Record) → record_in records id ≡ Some r → IsUnion has_record records (one_under id r) records
-held_union records id r at =
-    union_at exact_ids id_total same_record records records id r r r at (record { here = at; others = λ q apart. refl }) (λ x. twice (same_record r x))
+pub held_union : (records : Records) (r : Record) → record_in records r.id ≡ Some r → IsUnion has_record records (one_record r) records
+held_union records r at =
+    union_at exact_ids id_total same_record records records r.id r r r at (record { here = at; others = λ q apart. refl }) (λ x. twice (same_record r x))
 
 pub held_here : (o : Option (Bor Record)) (p : Option Record) (r : Record) → option_copied o ≡ p → is_some o ≡ true → IfSome p (λ held. held ≡ r) → p ≡ Some r
 held_here None p r is some agrees = absurd (true≢false (sym some))
@@ -110,6 +110,14 @@ agree_same (Some s) r h = elim (same_or_other s r) [
   | inr apart ↦ absurd (h (record { one = s; other = r; has_one = same_record_itself s; has_other = same_record_itself r; apart = apart }))
 ]
 
+-- the first holds under the name what the second holds there
+abbrev pub CoversAt : Records → Records → RecordId → Type 0
+CoversAt a b id = (r : Record) → record_in b id ≡ Some r → record_in a id ≡ Some r
+
+-- what the second holds there is this record
+pub covers_one : (mine theirs : Records) (r : Record) → record_in theirs r.id ≡ Some r → record_in mine r.id ≡ Some r → CoversAt mine theirs r.id
+covers_one mine theirs r held covers = λ s there. covers ∙ sym held ∙ there
+
 module _ (mine theirs : Records) (id : RecordId) (rest : List RecordId) where
   pub covered_step : CoversAt mine theirs id → Covered id_cmp same_record mine theirs (found_by theirs (id ∷ rest)) → Covered id_cmp same_record mine theirs (found_by theirs rest)
   covered_step covers = by (record_in theirs id) refl
@@ -122,6 +130,21 @@ module _ (mine theirs : Records) (id : RecordId) (rest : List RecordId) where
   included_at all r h = record_of_atom mine id r (all (id, r) (atom_of_record theirs id r h))
 
 -- ---- the least name under which both hold different records
+
+-- both hold a record under the name, and not the same one
+pub record DifferUnder (a b : Records) (id : RecordId) : Type 0 where
+  pub one : Record
+  pub other : Record
+  pub in_first : record_in a id ≡ Some one
+  pub in_second : record_in b id ≡ Some other
+  pub apart : one ≢ other
+
+module _ (mine theirs : Records) (r : Record) (held : record_in theirs r.id ≡ Some r) where
+  pub differ_there : HoldsAnother mine r → DifferUnder mine theirs r.id
+  differ_there another = record { one = another.other; other = r; in_first = another.held; in_second = held; apart = another.apart }
+
+  pub another_there : DifferUnder mine theirs r.id → HoldsAnother mine r
+  another_there d = record { other = d.one; held = d.in_first; apart = λ same. d.apart (same ∙ some_same r d.other (sym held ∙ d.in_second)) }
 
 -- each name that differs is among those that are left, or not below the least one so far
 pub record IsLeastSoFar (mine theirs : Records) (left : List RecordId) (least : Option RecordId) : Type 0 where

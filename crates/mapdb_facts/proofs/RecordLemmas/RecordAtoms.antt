@@ -10,7 +10,7 @@ use Rattle.mapdb_facts.specs.declared.operations.Record.{Record}
 use Rattle.mapdb_facts.specs.declared.names.RecordId.{RecordId}
 use Rattle.mapdb_facts.specs.Adding.{same_record}
 use Rattle.mapdb_facts.specs.Exact.{exact_id, exact_record}
-use Rattle.mapdb_facts.specs.HeldRecords.{one_under}
+use Rattle.mapdb_facts.specs.HeldRecords.{one_record}
 use Rattle.mapdb_facts.specs.Names.{same_id}
 use Rattle.mapdb_facts.specs.State.{first_of}
 use Rattle.mapdb_facts.specs.Kept.{Records, has_record, id_cmp, record_in}
@@ -34,10 +34,6 @@ inner_found (Some s) r h = ap (λ x. same_record x r) (some_same s r h) ∙ same
 -- what is looked up is an atom
 pub atom_of_record : (records : Records) (id : RecordId) (r : Record) → record_in records id ≡ Some r → has_record records (id, r) ≡ true
 atom_of_record records id r h = inner_found (lookup (is_at (id_cmp id)) records) r h
-
--- one record alone
-abbrev pub one_record : Record → Records
-one_record r = one_under r.id r
 
 alone : (b : Bool) (r s : Record) → some_has same_record (cond b (Some r) None) s ≡ true → (b ≡ true) × (r ≡ s)
 alone true r s h = (refl, exact_record r s h)

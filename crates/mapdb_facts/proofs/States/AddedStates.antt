@@ -13,10 +13,11 @@ use Rattle.mapdb_facts.specs.Names.{same_space}
 use Rattle.mapdb_facts.specs.State.{join, said, first_of}
 use Rattle.mapdb_facts.specs.Kept.{Kept, Records, Cuts, has_record, has_cut, record_in, cut_in, ended_in, space_cmp}
 use Rattle.mapdb_facts.specs.Facts.{state_of_facts}
+use Rattle.mapdb_facts.specs.HeldRecords.{one_record}
 use Rattle.mapdb_facts.proofs.Lists.Comparing.{space_at}
 use Rattle.mapdb_facts.proofs.Maps.Atoms.{same_state}
 use Rattle.mapdb_facts.proofs.Maps.CutAtoms.{cut_joined, cut_one, one_cut}
-use Rattle.mapdb_facts.proofs.RecordLemmas.RecordAtoms.{one_record, record_joined, record_one}
+use Rattle.mapdb_facts.proofs.RecordLemmas.RecordAtoms.{record_joined, record_one}
 
 or_false : (b : Bool) → b ≡ (b || false)
 or_false true = refl

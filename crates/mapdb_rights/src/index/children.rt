@@ -17,7 +17,7 @@ ghost use Rattle.mapdb_rights.specs.Right.{source_page};
 use super::stale::Stale;
 use mapdb_facts::{Facts, Record, RecordId, Space};
 use mapdb_fpage::PAGE_LIMIT;
-use mapdb_lists::{OwnPlace, OwnPlaces, Owner, Places, Sweep};
+use mapdb_lists::{OwnPlaces, Owner, Places, Sweep};
 use smallvec::SmallVec;
 use std::alloc::AllocError;
 
@@ -75,36 +75,6 @@ fn push_held(
     }
 }
 
-/// The children of the parent that these few places are the sources of: their pages that come from
-/// these pages join what is stale.
-fn push_few_sources(
-    stack: &mut SmallVec<Stale, 1>,
-    places: &[OwnPlace],
-    facts: &Facts,
-    parent: RecordId,
-    first: u64,
-    end: u64,
-) -> Result<(), AllocError>
-    requires { AreAligned places.now }
-    ensures kept { OnOk result ((id : RecordId) (page : ℕ)
-        → IsPending stack.old.items id page → IsPending stack.new.items id page) }
-    ensures stale { OnOk result ((r : Record) → Holds (state_of_facts facts.now) r
-        → r.parent ≡ parent → stands places.now (own_place (source_of r)) ≡ true
-        → (page : ℕ) → holds r.place page ≡ true
-        → first ≤ source_page r page → source_page r page < end
-        → IsPending stack.new.items r.id page) }
-    ensures weight { OnOk result ((base : ℕ) → 0 < base → weight base stack.new.items
-        ≤ weight base stack.old.items
-        + length places.now * share base (parent.number + 1)) }
-{
-    for place in places {
-        if place.meets(first, end) {
-            push_held(stack, facts, parent, place.id, first, end)?;
-        }
-    }
-    Ok(())
-}
-
 /// The children of the parent that these many places are the sources of: their pages that come from
 /// these pages join what is stale.
 fn push_many_sources(
@@ -157,10 +127,15 @@ fn push_sources(
         ≤ weight base stack.old.items
         + length (own_list own.now) * share base (parent.number + 1)) }
 {
-    match own.few() {
-        Some(places) => push_few_sources(stack, places, facts, parent, first, end),
-        None => push_many_sources(stack, own, facts, parent, first, end),
+    let Some(places) = own.few() else {
+        return push_many_sources(stack, own, facts, parent, first, end);
+    };
+    for place in places {
+        if place.meets(first, end) {
+            push_held(stack, facts, parent, place.id, first, end)?;
+        }
     }
+    Ok(())
 }
 
 /// The children of the parent whose source meets these pages: their pages that come from there join

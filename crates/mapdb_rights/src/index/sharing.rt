@@ -20,30 +20,9 @@ ghost use Rattle.mapdb_rights.specs.Meeting.{IsUnnamed, is_named, record_if, sha
 
 use mapdb_facts::{Facts, Record, RecordId};
 use mapdb_fpage::Fpage;
-use mapdb_lists::{OwnPlace, OwnPlaces, Owner, Places, Sweep};
+use mapdb_lists::{OwnPlaces, Owner, Places, Sweep};
 use smallvec::SmallVec;
 use std::alloc::{AllocError, Global};
-
-/// Adds the names of those of a few places that meet the pages from `first` on up to before `end`.
-fn add_few_names(
-    names: &mut SmallVec<RecordId, 1>,
-    places: &[OwnPlace],
-    first: u64,
-    end: u64,
-) -> Result<(), AllocError>
-    requires { AreAligned places.now }
-    ensures kept { OnOk result ((id : RecordId) → is_named names.old.items id ≡ true
-        → is_named names.new.items id ≡ true) }
-    ensures named { OnOk result ((p : OwnPlace) → stands places.now p ≡ true
-        → own_meets p first end ≡ true → is_named names.new.items p.id ≡ true) }
-{
-    for place in places {
-        if place.meets(first, end) {
-            names.push(place.id)?;
-        }
-    }
-    Ok(())
-}
 
 /// Adds the names of those of many places that meet the pages from `first` on up to before `end`.
 fn add_many_names(
@@ -80,10 +59,15 @@ fn add_names_of(
     ensures named { OnOk result ((p : OwnPlace) → stands (own_list own.now) p ≡ true
         → own_meets p first end ≡ true → is_named names.new.items p.id ≡ true) }
 {
-    match own.few() {
-        Some(places) => add_few_names(names, places, first, end),
-        None => add_many_names(names, own, first, end),
+    let Some(places) = own.few() else {
+        return add_many_names(names, own, first, end);
+    };
+    for place in places {
+        if place.meets(first, end) {
+            names.push(place.id)?;
+        }
     }
+    Ok(())
 }
 
 /// Adds the names of all entries of the owner that meet the pages of a place.
@@ -155,7 +139,7 @@ fn named_sharing(
         (λ id. record_if (shares_part owner part.now) ((state_of_facts facts.now).record_at id))
         names.now) }
 {
-    let mut found = Vec::new(alloc);
+    let mut found = Vec::with_capacity(alloc, names.len())?;
     for id in names {
         if let Some(mapping) = record_sharing(facts, owner, part, *id) {
             found.push(mapping)?;

@@ -5,11 +5,11 @@ use Rattle.mapdb_facts.proofs.records_by_name.add_new.Goals as goal
 
 pub returns-clause-greatest : goal.returns-clause-greatest
 returns-clause-greatest c =
-    put_greatest c.args.by_name.now c.insert.new.self c.args.id c.args.mapping c.in_ok-insert.ensures.ok c.args.greatest.now c.greater.result c.requires.greatest
+    put_greatest c.args.list.now c.add.new.self c.args.mapping.id c.args.mapping c.in_ok-add.ensures.ok c.args.greatest.now c.greater.result c.requires.greatest
     c.greater.ensures.one c.greater.ensures.other c.greater.ensures.either
 
 pub returns-clause-ok : goal.returns-clause-ok
-returns-clause-ok c = put_union c.args.by_name.now c.insert.new.self c.args.id c.args.mapping c.in_ok-insert.ensures.ok c.requires.absent
+returns-clause-ok c = put_union c.args.list.now c.add.new.self c.args.mapping.id c.args.mapping c.in_ok-add.ensures.ok c.requires.absent
 
-pub insert-requires : goal.insert-requires
-insert-requires c = sym (one_lookup c.args.by_name.now.entries c.args.id) ∙ c.requires.absent
+pub add-requires : goal.add-requires
+add-requires c = sym (one_lookup c.args.list.now.entries c.args.mapping.id) ∙ c.requires.absent

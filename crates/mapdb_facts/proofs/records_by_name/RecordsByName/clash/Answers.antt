@@ -1,34 +1,39 @@
-use Rattle.std.proofs.Common.{◌+◌, arith, drop, sym, ◌∙◌}
-use Rattle.std.proofs.Math.ListN.{drop_of_length-le}
+use Rattle.std.proofs.Common.{◌+◌, drop, sym, ◌∙◌}
 use Rattle.std.proofs.lemmas.Bool.{true≢false}
-use Rattle.std.proofs.lemmas.List.{drop_more}
-use Rattle.mapdb_facts.specs.Names.{root}
-use Rattle.mapdb_facts.proofs.RecordLemmas.HeldInOrder.{least_differs, least_first, least_passed, least_taken, none_differ}
-use Rattle.mapdb_facts.proofs.records_by_name.RecordsByName.clash.Goals.{else-differs_at, then-differs_at}
+use Rattle.mapdb_facts.proofs.NameLemmas.OwnNames.{item_found, names_come, names_left, no_names_left, own_names}
+use Rattle.mapdb_facts.proofs.RecordLemmas.HeldInOrder.{another_there, differ_there, least_differs, least_first, least_passed, least_taken, none_differ}
+use Rattle.mapdb_facts.proofs.records_by_name.RecordsByName.clash.Goals.{else-holds_another, then-holds_another}
 use Rattle.mapdb_facts.proofs.records_by_name.RecordsByName.clash.Goals as goal
 
-pub loop-id-init : goal.loop-id-init
-loop-id-init c = rw (c.keys-id-items.ensures, ← c.other.view_is) (least_first c.args.self.now c.other.inside.by_name.entries)
+pub loop-theirs-init : goal.loop-theirs-init
+loop-theirs-init c =
+    rw (sym (names_come c.as_slice-theirs-items.result.now c.other.inside.list c.as_slice-theirs-items.ensures.all), ← c.other.view_is)
+    (least_first c.args.self.now c.other.inside.list.entries)
 
-pub loop-id-preserved : goal.loop-id-preserved
-loop-id-preserved c =
-    let names = c.keys-id-items.result.now in
-    let so = rw (drop_more names c.loop-id.id-index root c.loop-id-test.true) at c.loop-id.invariant in
-    let rest = drop (c.loop-id.id-index + 1) names in
-    elim c.if-differs_at.branch [
-      | then-differs_at w ↦
-          rw w.least-is (least_taken c.args.self.now c.args.other.now _ rest c.loop-id.least w.lesser-least.result (c.differs_at.ensures.0 w.if-differs_at.true) so
+pub loop-theirs-preserved : goal.loop-theirs-preserved
+loop-theirs-preserved c =
+    let records = c.as_slice-theirs-items.result.now in
+    let theirs = c.theirs-item.result in
+    let so = rw (names_left records c.loop-theirs.theirs-index theirs c.loop-theirs-test.true c.theirs-item.is) at c.loop-theirs.invariant in
+    let rest = own_names (drop (c.loop-theirs.theirs-index + 1) records) in
+    let held = item_found records c.other.inside.list c.args.other.now c.as_slice-theirs-items.ensures.all c.other.view_is c.as_slice-theirs-items.ensures.found
+    c.loop-theirs.theirs-index theirs c.loop-theirs-test.true c.theirs-item.is in
+    elim c.if-holds_another.branch [
+      | then-holds_another w ↦
+          rw w.least-is (least_taken c.args.self.now c.args.other.now theirs.id rest c.loop-theirs.least w.lesser-least.result
+          (differ_there c.args.self.now c.args.other.now theirs held (c.holds_another.ensures.0 w.if-holds_another.true)) so
           w.lesser-least.ensures.none w.lesser-least.ensures.either w.lesser-least.ensures.least)
-      | else-differs_at w ↦
-          rw w.least-is (least_passed c.args.self.now c.args.other.now _ rest c.loop-id.least (λ d. true≢false (sym (c.differs_at.ensures.1 d) ∙ w.if-differs_at.false)) so)
+      | else-holds_another w ↦
+          rw w.least-is (least_passed c.args.self.now c.args.other.now theirs.id rest c.loop-theirs.least
+          (λ d. true≢false (sym (c.holds_another.ensures.1 (another_there c.args.self.now c.args.other.now theirs held d)) ∙ w.if-holds_another.false)) so)
     ]
 
 pub returns-clause-none : goal.returns-clause-none
 returns-clause-none c =
-    none_differ c.args.self.now c.args.other.now c.loop-id.least
-    (rw (drop_of_length-le c.keys-id-items.result.now {i = c.loop-id.id-index} (omega (arith, c.loop-id-test.false))) at c.loop-id.invariant)
+    none_differ c.args.self.now c.args.other.now c.loop-theirs.least
+    (rw (no_names_left c.as_slice-theirs-items.result.now c.loop-theirs.theirs-index c.loop-theirs-test.false) at c.loop-theirs.invariant)
 
 pub returns-clause-some : goal.returns-clause-some
 returns-clause-some c =
-    least_differs c.args.self.now c.args.other.now c.loop-id.least
-    (rw (drop_of_length-le c.keys-id-items.result.now {i = c.loop-id.id-index} (omega (arith, c.loop-id-test.false))) at c.loop-id.invariant)
+    least_differs c.args.self.now c.args.other.now c.loop-theirs.least
+    (rw (no_names_left c.as_slice-theirs-items.result.now c.loop-theirs.theirs-index c.loop-theirs-test.false) at c.loop-theirs.invariant)
