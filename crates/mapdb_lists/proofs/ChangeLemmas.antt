@@ -4,3 +4,4 @@ pub mod ListWrites
 pub mod ManyChanges
 pub mod RecordChanges
 pub mod Writing
+pub mod MovedChanges

@@ -1,8 +1,8 @@
 //! Changes written to a list in ascending order of page, by one search.
 
-ghost use Rattle.std.specs.Prelude.{◌≡◌, ◌≤◌, ◌<◌, ℕ, Some, None, IfNone, IfOk, IfSome, OnOk};
-ghost use Rattle.std.specs.Prelude.{OnErr, get_or, length, slice_set};
-ghost use Rattle.std.specs.List.{insert};
+ghost use Rattle.std.specs.Prelude.{◌≡◌, ◌≤◌, ◌<◌, ℕ, Some, None, IfErr, IfNone, IfOk, IfSome, OnOk};
+ghost use Rattle.std.specs.Prelude.{OnErr, get_or, length, slice_set, false, true};
+ghost use Rattle.std.specs.List.{insert, remove};
 ghost use Rattle.std.specs.Option.{unwrap_or};
 ghost use Rattle.mapdb_lists.specs.Changes.{IsRewritten, left_before};
 ghost use Rattle.mapdb_lists.specs.OwnChanges.{IsNoneUntil, listed_change};
@@ -113,16 +113,19 @@ fn write_between(
     Ok(index + 1)
 }
 
-/// Puts a change, if it is not what stands in front of its page, in place of one that stands there,
-/// and answers how many stand at the page or in front of it. An error where memory ran out.
+/// Puts a change, if it is not what stands in front of its page, in place of one that was found
+/// there, and answers how many stand at the page or in front of it. An error where memory ran out.
 #[inline(always)]
 fn write_first(
     list: &mut SmallVec<PageChange, 2>,
+    found: Result<usize, usize>,
     before: Change,
     page: u64,
     change: Change,
 ) -> Result<usize, AllocError>
-    requires { PagesRise list.old.items }
+    requires rise { PagesRise list.old.items }
+    requires there { IfOk found (StandsAtPage list.old.items page) }
+    requires gap { IfErr found (IsGap list.old.items page) }
     ensures rise { PagesRise list.new.items }
     ensures spot { IfOk result (IsSpot list.new.items page) }
     ensures there { OnOk result (unwrap_or (listed_change list.new.items page)
@@ -130,7 +133,7 @@ fn write_first(
     ensures elsewhere { OnOk result ((q : ℕ) → (page ≡ q → ⊥)
         → listed_change list.new.items q ≡ listed_change list.old.items q) }
 {
-    match index_of(list.as_slice(), page) {
+    match found {
         Ok(index) => Ok(write_over(list, index, before, page, change)),
         Err(index) => write_between(list, index, before, page, change),
     }
@@ -196,6 +199,118 @@ fn write_end(
     Ok(())
 }
 
+/// Puts a change in place of one that is taken out.
+fn exchange(list: &mut SmallVec<PageChange, 2>, index: usize, next: PageChange)
+    requires { index < length list.old.items }
+    ensures { list.new.items ≡ insert (remove list.old.items index) index next }
+{
+    set_at(list.as_mut_slice(), index, next);
+}
+
+/// Where the change at the first of pages goes, since they get what stands in front of them, and one
+/// comes at their end, where none stands: the one is exchanged for the other. Answers whether that
+/// was so; if not, nothing has changed.
+#[inline(always)]
+fn move_on(
+    list: &mut SmallVec<PageChange, 2>,
+    index: usize,
+    before: Change,
+    first: u64,
+    end: u64,
+    was: Change,
+    change: Change,
+) -> bool
+    requires rise { PagesRise list.old.items }
+    requires there { StandsAtPage list.old.items first index }
+    requires some { first < end }
+    requires one { IsNoneUntil (listed_change list.old.items) first end }
+    ensures rise { PagesRise list.new.items }
+    ensures moved { result ≡ true → IsRewritten (listed_change list.old.items) before first end was
+        change (listed_change list.new.items) }
+    ensures kept { result ≡ false → list.new.items ≡ list.old.items }
+{
+    let shown = list.as_slice();
+    if !change.is(in_front(shown, index, before)) || change_there(shown, index + 1, end).is_some() {
+        return false;
+    }
+    let follows = PageChange {
+        page: end,
+        change: was,
+    };
+    exchange(list, index, follows);
+    true
+}
+
+/// Where the change at the end of pages goes, since they get the same, and one comes at the first of
+/// them, where none stands: the one is exchanged for the other. Answers whether that was so; if not,
+/// nothing has changed.
+#[inline(always)]
+fn move_back(
+    list: &mut SmallVec<PageChange, 2>,
+    index: usize,
+    before: Change,
+    first: u64,
+    end: u64,
+    was: Change,
+    change: Change,
+) -> bool
+    requires rise { PagesRise list.old.items }
+    requires gap { IsGap list.old.items first index }
+    requires some { first < end }
+    ensures rise { PagesRise list.new.items }
+    ensures moved { result ≡ true → IsRewritten (listed_change list.old.items) before first end was
+        change (listed_change list.new.items) }
+    ensures once { result ≡ true
+        → change ≡ left_before (listed_change list.old.items) before first → ⊥ }
+    ensures kept { result ≡ false → list.new.items ≡ list.old.items }
+{
+    let shown = list.as_slice();
+    match change_there(shown, index, end) {
+        Some(next) if next.is(change) && !change.is(in_front(shown, index, before)) => {}
+        _ => return false,
+    }
+    exchange(
+        list,
+        index,
+        PageChange {
+            page: first,
+            change,
+        },
+    );
+    true
+}
+
+/// Where one change goes and one comes at the same index, exchanges them: no other one moves.
+/// Answers whether that was so; if not, nothing has changed.
+#[inline(always)]
+fn move_one(
+    list: &mut SmallVec<PageChange, 2>,
+    found: Result<usize, usize>,
+    before: Change,
+    first: u64,
+    end: u64,
+    was: Change,
+    change: Change,
+) -> bool
+    requires rise { PagesRise list.old.items }
+    requires there { IfOk found (StandsAtPage list.old.items first) }
+    requires gap { IfErr found (IsGap list.old.items first) }
+    requires some { first < end }
+    requires one { IsNoneUntil (listed_change list.old.items) first end }
+    ensures rise { PagesRise list.new.items }
+    ensures moved { result ≡ true → IsRewritten (listed_change list.old.items) before first end was
+        change (listed_change list.new.items) }
+    ensures kept { result ≡ false → list.new.items ≡ list.old.items }
+{
+    if end >= PAGE_LIMIT {
+        return false;
+    }
+    match found {
+        Ok(index) => move_on(list, index, before, first, end, was, change),
+        Err(index) => move_back(list, index, before, first, end, was, change),
+    }
+}
+
 /// Gives a change to pages over which another stood, where this stands before any change. An error
 /// where memory ran out.
 #[inline(always)]
@@ -214,6 +329,10 @@ pub(crate) fn list_write(
     ensures written { OnOk result (IsRewritten (listed_change list.old.items) before first end was
         change (listed_change list.new.items)) }
 {
-    let spot = write_first(list, before, first, change)?;
+    let found = index_of(list.as_slice(), first);
+    if move_one(list, found, before, first, end, was, change) {
+        return Ok(());
+    }
+    let spot = write_first(list, found, before, first, change)?;
     write_end(list, spot, first, end, was, change)
 }
