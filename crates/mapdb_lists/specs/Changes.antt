@@ -1,7 +1,7 @@
 -- What is cached of records at pages, and its changes: from a page of a record on these rights
 -- stand, with frames as far from the pages, up to the next change.
-use Rattle.std.specs.Prelude.{◌≡◌, ◌<◌, ◌≤◌, ◌&&◌, ℕ, zero, suc, Bool, false, nat_le, nat_lt, List}
-use Rattle.std.specs.Prelude.{Option, None, Some, if◌then◌else◌}
+use Rattle.std.specs.Prelude.{◌≡◌, ◌≢◌, ◌<◌, ◌≤◌, ◌&&◌, ◌⊎◌, ℕ, zero, suc, Bool, false, nat_le}
+use Rattle.std.specs.Prelude.{nat_lt, List, Option, None, Some, IsSome, if◌then◌else◌}
 use Rattle.std.specs.Map.{lookup}
 use Rattle.std.specs.Option.{unwrap_or}
 use Rattle.mapdb_fpage.specs.Bounds.{page_limit}
@@ -60,6 +60,26 @@ pub record IsRewritten (old : ℕ → Option Change) (before : Change) (first en
   pub at_first : unwrap_or (new first) (left_before old before first) ≡ change
   pub at_end : end < page_limit → unwrap_or (new end) change ≡ unwrap_or (old end) was
   pub elsewhere : (q : ℕ) → (first ≡ q → ⊥) → (end ≡ q → ⊥) → new q ≡ old q
+
+-- The change at the first of pages goes, since they get what stands in front of them, and none is
+-- at their end, where what follows has to begin.
+pub record GoesOn (at : ℕ → Option Change) (before : Change) (first end : ℕ) (change : Change)
+    : Type 0 where
+  pub left : change ≡ left_before at before first
+  pub none : at end ≡ None
+
+-- The change at the end of pages goes, since they get the same, and they have to begin with one,
+-- since they do not get what stands in front of them.
+pub record GoesBack (at : ℕ → Option Change) (before : Change) (first end : ℕ) (change : Change)
+    : Type 0 where
+  pub same : at end ≡ Some change
+  pub other : change ≢ left_before at before first
+
+-- where pages are given a change, one goes and one comes, with no other between them
+abbrev pub IsOneForOne : (ℕ → Option Change) → Change → ℕ → ℕ → Change → Type 0
+IsOneForOne at before first end change = (end < page_limit)
+    × ((IsSome (at first) × GoesOn at before first end change)
+    ⊎ ((at first ≡ None) × GoesBack at before first end change))
 
 -- what the last change up to the page leaves, and an end up to which there is no other
 pub record IsStretch (at : ℕ → Option Change) (first : Change) (page : ℕ) (stretch : Stretch)

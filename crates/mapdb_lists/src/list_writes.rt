@@ -1,10 +1,11 @@
 //! Changes written to a list in ascending order of page, by one search.
 
-ghost use Rattle.std.specs.Prelude.{◌≡◌, ◌≤◌, ◌<◌, ℕ, Some, None, IfErr, IfNone, IfOk, IfSome, OnOk};
-ghost use Rattle.std.specs.Prelude.{OnErr, get_or, length, slice_set, false, true};
+ghost use Rattle.std.specs.Prelude.{◌≡◌, ◌≤◌, ◌<◌, ◌↔◌, ℕ, Some, None, IfErr, IfNone, IfOk};
+ghost use Rattle.std.specs.Prelude.{IfSome, IsTrue, OnErr, OnOk, get_or, length, slice_set, false};
+ghost use Rattle.std.specs.Prelude.{true};
 ghost use Rattle.std.specs.List.{insert, remove};
 ghost use Rattle.std.specs.Option.{unwrap_or};
-ghost use Rattle.mapdb_lists.specs.Changes.{IsRewritten, left_before};
+ghost use Rattle.mapdb_lists.specs.Changes.{GoesBack, GoesOn, IsOneForOne, IsRewritten, left_before};
 ghost use Rattle.mapdb_lists.specs.OwnChanges.{IsNoneUntil, listed_change};
 ghost use Rattle.mapdb_lists.specs.PageOrder.{AreInFront, IsGap, IsSpot, PagesRise, StandsAtPage};
 ghost use Rattle.mapdb_lists.specs.declared.few_changes.PageChange.{PageChange};
@@ -207,77 +208,34 @@ fn exchange(list: &mut SmallVec<PageChange, 2>, index: usize, next: PageChange)
     set_at(list.as_mut_slice(), index, next);
 }
 
-/// Where the change at the first of pages goes, since they get what stands in front of them, and one
-/// comes at their end, where none stands: the one is exchanged for the other. Answers whether that
-/// was so; if not, nothing has changed.
+/// Whether the change at the first of pages goes, since they get what stands in front of them, and
+/// one comes at their end, where none stands.
 #[inline(always)]
-fn move_on(
-    list: &mut SmallVec<PageChange, 2>,
-    index: usize,
-    before: Change,
-    first: u64,
-    end: u64,
-    was: Change,
-    change: Change,
-) -> bool
-    requires rise { PagesRise list.old.items }
-    requires there { StandsAtPage list.old.items first index }
-    requires some { first < end }
-    requires one { IsNoneUntil (listed_change list.old.items) first end }
-    ensures rise { PagesRise list.new.items }
-    ensures moved { result ≡ true → IsRewritten (listed_change list.old.items) before first end was
-        change (listed_change list.new.items) }
-    ensures kept { result ≡ false → list.new.items ≡ list.old.items }
+fn goes_on(list: &[PageChange], index: usize, before: Change, end: u64, change: Change) -> bool
+    requires rise { PagesRise list.now }
+    requires inside { index < length list.now }
+    ensures { (first : ℕ) → StandsAtPage list.now first index → first < end
+        → IsNoneUntil (listed_change list.now) first end
+        → IsTrue result ↔ GoesOn (listed_change list.now) before first end change }
 {
-    let shown = list.as_slice();
-    if !change.is(in_front(shown, index, before)) || change_there(shown, index + 1, end).is_some() {
-        return false;
-    }
-    let follows = PageChange {
-        page: end,
-        change: was,
-    };
-    exchange(list, index, follows);
-    true
+    change.is(in_front(list, index, before)) && change_there(list, index + 1, end).is_none()
 }
 
-/// Where the change at the end of pages goes, since they get the same, and one comes at the first of
-/// them, where none stands: the one is exchanged for the other. Answers whether that was so; if not,
-/// nothing has changed.
+/// Whether the change at the end of pages goes, since they get the same, and one comes at the first
+/// of them, where none stands.
 #[inline(always)]
-fn move_back(
-    list: &mut SmallVec<PageChange, 2>,
-    index: usize,
-    before: Change,
-    first: u64,
-    end: u64,
-    was: Change,
-    change: Change,
-) -> bool
-    requires rise { PagesRise list.old.items }
-    requires gap { IsGap list.old.items first index }
-    requires some { first < end }
-    ensures rise { PagesRise list.new.items }
-    ensures moved { result ≡ true → IsRewritten (listed_change list.old.items) before first end was
-        change (listed_change list.new.items) }
-    ensures once { result ≡ true
-        → change ≡ left_before (listed_change list.old.items) before first → ⊥ }
-    ensures kept { result ≡ false → list.new.items ≡ list.old.items }
+fn goes_back(list: &[PageChange], index: usize, before: Change, end: u64, change: Change) -> bool
+    requires rise { PagesRise list.now }
+    requires inside { index ≤ length list.now }
+    ensures there { IsTrue result → StandsAtPage list.now end index }
+    ensures back { (first : ℕ) → IsGap list.now first index → first < end
+        → IsNoneUntil (listed_change list.now) first end
+        → IsTrue result ↔ GoesBack (listed_change list.now) before first end change }
 {
-    let shown = list.as_slice();
-    match change_there(shown, index, end) {
-        Some(next) if next.is(change) && !change.is(in_front(shown, index, before)) => {}
-        _ => return false,
+    match change_there(list, index, end) {
+        Some(next) => next.is(change) && !change.is(in_front(list, index, before)),
+        None => false,
     }
-    exchange(
-        list,
-        index,
-        PageChange {
-            page: first,
-            change,
-        },
-    );
-    true
 }
 
 /// Where one change goes and one comes at the same index, exchanges them: no other one moves.
@@ -297,6 +255,8 @@ fn move_one(
     requires gap { IfErr found (IsGap list.old.items first) }
     requires some { first < end }
     requires one { IsNoneUntil (listed_change list.old.items) first end }
+    ensures when { IsTrue result
+        ↔ IsOneForOne (listed_change list.old.items) before first end change }
     ensures rise { PagesRise list.new.items }
     ensures moved { result ≡ true → IsRewritten (listed_change list.old.items) before first end was
         change (listed_change list.new.items) }
@@ -306,9 +266,34 @@ fn move_one(
         return false;
     }
     match found {
-        Ok(index) => move_on(list, index, before, first, end, was, change),
-        Err(index) => move_back(list, index, before, first, end, was, change),
+        Ok(index) => {
+            if !goes_on(list.as_slice(), index, before, end, change) {
+                return false;
+            }
+            exchange(
+                list,
+                index,
+                PageChange {
+                    page: end,
+                    change: was,
+                },
+            );
+        }
+        Err(index) => {
+            if !goes_back(list.as_slice(), index, before, end, change) {
+                return false;
+            }
+            exchange(
+                list,
+                index,
+                PageChange {
+                    page: first,
+                    change,
+                },
+            );
+        }
     }
+    true
 }
 
 /// Gives a change to pages over which another stood, where this stands before any change. An error

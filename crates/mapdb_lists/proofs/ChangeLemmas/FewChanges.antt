@@ -42,7 +42,7 @@ behind_front x xs q less =
     ap (λ (o : Option Change). or_change o (listed_change xs q)) (cond-false (nat_eq x.page q) (Some x.change) None (other_page x.page q (λ same. let no : ⊥ = omega arith in no)))
 
 -- each change of the list, where pages rise
-listed_there : (list : List PageChange) → PagesRise list → (at : ℕ) (d : PageChange) → at < length list → listed_change list (get_or list at d).page ≡ Some (get_or list at d).change
+pub listed_there : (list : List PageChange) → PagesRise list → (at : ℕ) (d : PageChange) → at < length list → listed_change list (get_or list at d).page ≡ Some (get_or list at d).change
 listed_there [] rise at d inside = absurd (omega arith)
 listed_there (x ∷ xs) rise zero d inside =
     ap (λ (o : Option Change). or_change o (listed_change xs x.page)) (cond-true (nat_eq x.page x.page) (Some x.change) None (eq-eqb x.page x.page refl))

@@ -1,16 +1,17 @@
 -- A change that goes, and one that comes at the same index.
-use Rattle.std.proofs.Common.{◌≡◌, false, ℕ, zero, suc, ◌+◌, ◌<◌, refl, sym, ap, ◌∙◌, List, [], ◌∷◌, length, get_or, arith}
-use Rattle.std.specs.Prelude.{IfNone, Option, Some, None, slice_set}
+use Rattle.std.proofs.Common.{◌≡◌, ◌↔◌, ℕ, Bool, true, false, not, zero, suc, ◌+◌, ◌<◌, refl, sym, ap, ◌∙◌, List, [], ◌∷◌, length, get_or, arith, inl, inr, rules}
+use Rattle.std.specs.Prelude.{IfNone, IfSome, IsSome, IsTrue, Option, Some, None, slice_set}
 use Rattle.std.specs.List.{insert, remove}
 use Rattle.std.specs.Option.{is_some, unwrap_or}
 use Rattle.std.proofs.lemmas.Bool.{true≢false}
 use Rattle.std.proofs.lemmas.List.Edits.{get_or-remove_above, get_or-remove_below, length-remove}
-use Rattle.mapdb_lists.specs.Changes.{IsRewritten, left_before}
+use Rattle.mapdb_fpage.specs.Bounds.{page_limit}
+use Rattle.mapdb_lists.specs.Changes.{GoesBack, GoesOn, IsOneForOne, IsRewritten, left_before}
 use Rattle.mapdb_lists.specs.declared.changes.Change.{Change}
 use Rattle.mapdb_lists.specs.declared.few_changes.PageChange.{PageChange}
 use Rattle.mapdb_lists.specs.OwnChanges.{IsNoneUntil, listed_change}
-use Rattle.mapdb_lists.specs.PageOrder.{IsGap, PagesRise, StandsAtPage}
-use Rattle.mapdb_lists.proofs.ChangeLemmas.FewChanges.{gap_at_end, insert_rises, listed_gap, put_between, remove_rises, remove_spot, removed}
+use Rattle.mapdb_lists.specs.PageOrder.{IsGap, IsSpot, PagesRise, StandsAtPage}
+use Rattle.mapdb_lists.proofs.ChangeLemmas.FewChanges.{gap_at_end, insert_rises, listed_gap, listed_here, listed_there, put_between, remove_rises, remove_spot, removed, spot_behind}
 use Rattle.mapdb_lists.proofs.ChangeLemmas.ListWrites.{put_elsewhere, put_here}
 
 pub exchanged : (list : List PageChange) (at : ℕ) (next : PageChange) → at < length list → slice_set list at next ≡ insert (remove list at) at next
@@ -18,10 +19,8 @@ exchanged [] at next inside = absurd (omega (arith, inside))
 exchanged (x ∷ list) zero next inside = refl
 exchanged (x ∷ list) (suc at) next inside = ap (λ (rest : List PageChange). x ∷ rest) (exchanged list at next (omega (arith, inside)))
 
--- what is known where there is none
-pub none_at : {A : Type 0} (o : Option A) (P : Type 0) → is_some o ≡ false → IfNone o P → P
-none_at None P lacks h = h
-none_at (Some a) P lacks h = absurd (true≢false lacks)
+some_none : {change : Change} → Some change ≡ None → ⊥
+some_none e = search rules
 
 same_page : (a b : PageChange) → a ≡ b → a.page ≡ b.page
 same_page a b same = ap (λ (e : PageChange). e.page) same
@@ -33,10 +32,51 @@ module _ (list : List PageChange) (rise : PagesRise list) (first end at : ℕ) (
   apart_too : end ≡ first → ⊥
   apart_too e = let no : ⊥ = omega (arith, e, some) in no
 
+  -- ---- whether one stands at the end
+
+  -- where none does, none of the list is at its page
+  pub none_next : listed_change list end ≡ None → (k : ℕ) (d : PageChange) → k < length list → (get_or list k d).page ≡ end → ⊥
+  none_next none k d inside here = some_none (sym (listed_there list rise k d inside) ∙ ap (listed_change list) here ∙ none)
+
+  module _ (one : IsNoneUntil (listed_change list) first end) where
+    pub none_behind : StandsAtPage list first at → (o : Option Change) (none : Bool) → is_some o ≡ not none
+        → IfNone o ((d : PageChange) → at + 1 < length list → (get_or list (at + 1) d).page ≡ end → ⊥)
+        → IfSome o (λ change. listed_change list end ≡ Some change) → IsTrue none ↔ (listed_change list end ≡ None)
+    none_behind there None true is apart_from found =
+        ((λ _. listed_gap list rise end (at + 1) (gap_at_end list rise first end (at + 1) (spot_behind list rise first at there) some one apart_from)), (λ _. refl))
+    none_behind there None false is apart_from found = absurd (true≢false (sym is))
+    none_behind there (Some change) true is apart_from found = absurd (true≢false is)
+    none_behind there (Some change) false is apart_from found = ((λ no. absurd (true≢false (sym no))), (λ none. absurd (some_none (sym found ∙ none))))
+
+    pub none_there : IsGap list first at → ((d : PageChange) → at < length list → (get_or list at d).page ≡ end → ⊥) → listed_change list end ≡ None
+    none_there gap apart_from = listed_gap list rise end at (gap_at_end list rise first end at spot some one apart_from)
+      where
+        spot : IsSpot list first at
+        spot = record {
+          inside = gap.inside;
+          up_to = λ k d low. let l : (get_or list k d).page < first = gap.front k d low in omega (arith, l);
+          behind = gap.behind;
+        }
+
+  -- ---- what there is to exchange
+
+  module _ (before change : Change) (within : end < page_limit) where
+    pub one_on : StandsAtPage list first at → GoesOn (listed_change list) before first end change ↔ IsOneForOne (listed_change list) before first end change
+    one_on there = ((λ on. (within, inl (here, on))), (λ is. elim is.1 [ inl on ↦ on.1 | inr back ↦ absurd (true≢false (sym here ∙ ap is_some back.0)) ]))
+      where
+        here : IsSome (listed_change list first)
+        here = ap is_some (sym (listed_here list rise first at (record { page = first; change = change }) there))
+
+    pub one_back : IsGap list first at → GoesBack (listed_change list) before first end change ↔ IsOneForOne (listed_change list) before first end change
+    one_back gap = ((λ back. (within, inr (none, back))), (λ is. elim is.1 [ inl on ↦ absurd (true≢false (sym on.0 ∙ ap is_some none)) | inr back ↦ back.1 ]))
+      where
+        none : listed_change list first ≡ None
+        none = listed_gap list rise first at gap
+
   -- ---- the one at the first page goes, and one comes at the end
 
   module _ (there : StandsAtPage list first at) (one : IsNoneUntil (listed_change list) first end)
-      (none : (d : PageChange) → at + 1 < length list → (get_or list (at + 1) d).page ≡ end → ⊥) where
+      (none : listed_change list end ≡ None) where
     none_then : IsNoneUntil (listed_change (remove list at)) first end
     none_then q above below =
         put_elsewhere (listed_change list) (listed_change (remove list at)) first None (removed list rise at first there) q (λ e. let no : ⊥ = omega (arith, e, above) in no)
@@ -45,7 +85,7 @@ module _ (list : List PageChange) (rise : PagesRise list) (first end at : ℕ) (
     no_other : (d : PageChange) → at < length (remove list at) → (get_or (remove list at) at d).page ≡ end → ⊥
     no_other d inside here =
         let shorter : length (remove list at) + 1 ≡ length list = length-remove list at there.inside in
-        none d (omega (arith, inside, shorter))
+        none_next none (at + 1) d (omega (arith, inside, shorter))
         (sym (same_page (get_or (remove list at) at d) (get_or list (at + 1) d) (get_or-remove_above list at d at (omega arith) there.inside)) ∙ here)
 
     gap_then : IsGap (remove list at) end at
