@@ -39,7 +39,8 @@ fn put_all(list: &mut Vec<Start>, before: u8, starts: &[Start], bits: u8) -> Res
     Ok(())
 }
 
-/// Puts a list in the place of the starts from one index up to another.
+/// Puts a list in the place of the starts from one index up to another. A list that is as long as
+/// they are is written over them, and takes no memory.
 fn replace(
     starts: &mut Vec<Start>,
     low: usize,
@@ -50,7 +51,11 @@ fn replace(
     ensures ok { OnOk result (starts.new.items ≡ splice starts.old.items low high list.items) }
     ensures err { OnErr result (starts.new.items ≡ starts.old.items) }
 {
-    starts.splice(low..high, list)?;
+    if list.len() == high - low {
+        starts[low..high].copy_from_slice(list.as_slice());
+    } else {
+        starts.splice(low..high, list)?;
+    }
     Ok(())
 }
 

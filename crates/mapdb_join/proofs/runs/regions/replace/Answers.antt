@@ -6,8 +6,8 @@ use Rattle.std.proofs.lemmas.Iterator.Adapters.{YieldsList-from_vec, fact_from_e
 use Rattle.mapdb_join.specs.declared.runs.starts.Start.{Start}
 use Rattle.mapdb_join.proofs.runs.regions.replace.Goals as goal
 
-pub returns-clause-ok : goal.returns-clause-ok
-returns-clause-ok c =
+pub returns-in_ok-splice-clause-ok : goal.returns-in_ok-splice-clause-ok
+returns-in_ok-splice-clause-ok c =
     let h = c.in_ok-splice.ensures.items in
     fact_from_extend {E = ℕ} {B = λ (it : IntoIter Start Global). (it.rest.items ≡ c.args.list.items) × (it.rest.len ≡ c.args.list.len)} (λ (y : Start). y) (Ok tt) (h.0, h.1, (h.2.0, h.2.1), h.4, h.3)
     (λ it b. YieldsList-from_vec c.args.list.items b.0 (omega (arith, b.1, c.args.list.ok.0)))
