@@ -3,7 +3,7 @@ use Rattle.std.proofs.Common.{◌≡◌, ℕ, ◌+◌, ◌-◌, ◌≤◌, ◌<�
 use Rattle.std.proofs.lemmas.List.{take-append-drop, take_all, append-nil, drop-append-le, drop-take}
 use Rattle.std.proofs.Math.ListN.{drop_of_length-le, length-take}
 use Rattle.std.proofs.Math.Seq.{take-append-add, take-append_seam}
-use Rattle.std.specs.Prelude.{Option, Some, None, Result, Ok, Err, OnErr, OnOk, slice_range}
+use Rattle.std.specs.Prelude.{Option, Some, None, Result, Ok, Err, OnErr, slice_range}
 use Rattle.std.specs.Io.KnownBytes.{Appends}
 use Rattle.mapdb_lines.specs.Blocks.{Passes}
 use Rattle.mapdb_lines.proofs.LineLemmas.{Appends-append}
@@ -76,14 +76,6 @@ range_put xs text s e room low high is =
 
 -- ---- what follows for a result
 
-pub on_ok_with : {X E A B : Type 0} (r : Result X E) → (A → B) → OnOk r A → OnOk r B
-on_ok_with (Ok x) f h = f h
-on_ok_with (Err e) f h = tt
-
 pub on_err_of : {X E A : Type 0} (r : Result X E) → A → OnErr r A
 on_err_of (Ok x) h = tt
 on_err_of (Err e) h = h
-
-pub on_err_with : {X E A B : Type 0} (r : Result X E) → (A → B) → OnErr r A → OnErr r B
-on_err_with (Ok x) f h = tt
-on_err_with (Err e) f h = f h

@@ -63,14 +63,14 @@ pub record IsRewritten (old : ℕ → Option Change) (before : Change) (first en
 
 -- The change at the first of pages goes, since they get what stands in front of them, and none is
 -- at their end, where what follows has to begin.
-pub record GoesOn (at : ℕ → Option Change) (before : Change) (first end : ℕ) (change : Change)
+pub record MovesOn (at : ℕ → Option Change) (before : Change) (first end : ℕ) (change : Change)
     : Type 0 where
   pub left : change ≡ left_before at before first
   pub none : at end ≡ None
 
 -- The change at the end of pages goes, since they get the same, and they have to begin with one,
 -- since they do not get what stands in front of them.
-pub record GoesBack (at : ℕ → Option Change) (before : Change) (first end : ℕ) (change : Change)
+pub record MovesBack (at : ℕ → Option Change) (before : Change) (first end : ℕ) (change : Change)
     : Type 0 where
   pub same : at end ≡ Some change
   pub other : change ≢ left_before at before first
@@ -78,8 +78,8 @@ pub record GoesBack (at : ℕ → Option Change) (before : Change) (first end : 
 -- where pages are given a change, one goes and one comes, with no other between them
 abbrev pub IsOneForOne : (ℕ → Option Change) → Change → ℕ → ℕ → Change → Type 0
 IsOneForOne at before first end change = (end < page_limit)
-    × ((IsSome (at first) × GoesOn at before first end change)
-    ⊎ ((at first ≡ None) × GoesBack at before first end change))
+    × ((IsSome (at first) × MovesOn at before first end change)
+    ⊎ ((at first ≡ None) × MovesBack at before first end change))
 
 -- what the last change up to the page leaves, and an end up to which there is no other
 pub record IsStretch (at : ℕ → Option Change) (first : Change) (page : ℕ) (stretch : Stretch)

@@ -5,7 +5,8 @@ ghost use Rattle.std.specs.Prelude.{IfSome, IsTrue, OnErr, OnOk, get_or, length,
 ghost use Rattle.std.specs.Prelude.{true};
 ghost use Rattle.std.specs.List.{insert, remove};
 ghost use Rattle.std.specs.Option.{unwrap_or};
-ghost use Rattle.mapdb_lists.specs.Changes.{GoesBack, GoesOn, IsOneForOne, IsRewritten, left_before};
+ghost use Rattle.mapdb_lists.specs.Changes.{IsOneForOne, IsRewritten, MovesBack, MovesOn};
+ghost use Rattle.mapdb_lists.specs.Changes.{left_before};
 ghost use Rattle.mapdb_lists.specs.OwnChanges.{IsNoneUntil, listed_change};
 ghost use Rattle.mapdb_lists.specs.PageOrder.{AreInFront, IsGap, IsSpot, PagesRise, StandsAtPage};
 ghost use Rattle.mapdb_lists.specs.declared.few_changes.PageChange.{PageChange};
@@ -211,12 +212,12 @@ fn exchange(list: &mut SmallVec<PageChange, 2>, index: usize, next: PageChange)
 /// Whether the change at the first of pages goes, since they get what stands in front of them, and
 /// one comes at their end, where none stands.
 #[inline(always)]
-fn goes_on(list: &[PageChange], index: usize, before: Change, end: u64, change: Change) -> bool
+fn moves_on(list: &[PageChange], index: usize, before: Change, end: u64, change: Change) -> bool
     requires rise { PagesRise list.now }
     requires inside { index < length list.now }
     ensures { (first : ℕ) → StandsAtPage list.now first index → first < end
         → IsNoneUntil (listed_change list.now) first end
-        → IsTrue result ↔ GoesOn (listed_change list.now) before first end change }
+        → IsTrue result ↔ MovesOn (listed_change list.now) before first end change }
 {
     change.is(in_front(list, index, before)) && change_there(list, index + 1, end).is_none()
 }
@@ -224,13 +225,13 @@ fn goes_on(list: &[PageChange], index: usize, before: Change, end: u64, change: 
 /// Whether the change at the end of pages goes, since they get the same, and one comes at the first
 /// of them, where none stands.
 #[inline(always)]
-fn goes_back(list: &[PageChange], index: usize, before: Change, end: u64, change: Change) -> bool
+fn moves_back(list: &[PageChange], index: usize, before: Change, end: u64, change: Change) -> bool
     requires rise { PagesRise list.now }
     requires inside { index ≤ length list.now }
     ensures there { IsTrue result → StandsAtPage list.now end index }
     ensures back { (first : ℕ) → IsGap list.now first index → first < end
         → IsNoneUntil (listed_change list.now) first end
-        → IsTrue result ↔ GoesBack (listed_change list.now) before first end change }
+        → IsTrue result ↔ MovesBack (listed_change list.now) before first end change }
 {
     match change_there(list, index, end) {
         Some(next) => next.is(change) && !change.is(in_front(list, index, before)),
@@ -267,7 +268,7 @@ fn move_one(
     }
     match found {
         Ok(index) => {
-            if !goes_on(list.as_slice(), index, before, end, change) {
+            if !moves_on(list.as_slice(), index, before, end, change) {
                 return false;
             }
             exchange(
@@ -280,7 +281,7 @@ fn move_one(
             );
         }
         Err(index) => {
-            if !goes_back(list.as_slice(), index, before, end, change) {
+            if !moves_back(list.as_slice(), index, before, end, change) {
                 return false;
             }
             exchange(

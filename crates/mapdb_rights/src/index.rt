@@ -22,6 +22,7 @@ mod runs;
 mod served_pages;
 mod settling;
 mod sharing;
+mod short_lists;
 mod shown_spaces;
 mod stale;
 mod stepping;

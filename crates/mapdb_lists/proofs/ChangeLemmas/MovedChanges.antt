@@ -6,7 +6,7 @@ use Rattle.std.specs.Option.{is_some, unwrap_or}
 use Rattle.std.proofs.lemmas.Bool.{true≢false}
 use Rattle.std.proofs.lemmas.List.Edits.{get_or-remove_above, get_or-remove_below, length-remove}
 use Rattle.mapdb_fpage.specs.Bounds.{page_limit}
-use Rattle.mapdb_lists.specs.Changes.{GoesBack, GoesOn, IsOneForOne, IsRewritten, left_before}
+use Rattle.mapdb_lists.specs.Changes.{MovesBack, MovesOn, IsOneForOne, IsRewritten, left_before}
 use Rattle.mapdb_lists.specs.declared.changes.Change.{Change}
 use Rattle.mapdb_lists.specs.declared.few_changes.PageChange.{PageChange}
 use Rattle.mapdb_lists.specs.OwnChanges.{IsNoneUntil, listed_change}
@@ -61,13 +61,13 @@ module _ (list : List PageChange) (rise : PagesRise list) (first end at : ℕ) (
   -- ---- what there is to exchange
 
   module _ (before change : Change) (within : end < page_limit) where
-    pub one_on : StandsAtPage list first at → GoesOn (listed_change list) before first end change ↔ IsOneForOne (listed_change list) before first end change
+    pub one_on : StandsAtPage list first at → MovesOn (listed_change list) before first end change ↔ IsOneForOne (listed_change list) before first end change
     one_on there = ((λ on. (within, inl (here, on))), (λ is. elim is.1 [ inl on ↦ on.1 | inr back ↦ absurd (true≢false (sym here ∙ ap is_some back.0)) ]))
       where
         here : IsSome (listed_change list first)
         here = ap is_some (sym (listed_here list rise first at (record { page = first; change = change }) there))
 
-    pub one_back : IsGap list first at → GoesBack (listed_change list) before first end change ↔ IsOneForOne (listed_change list) before first end change
+    pub one_back : IsGap list first at → MovesBack (listed_change list) before first end change ↔ IsOneForOne (listed_change list) before first end change
     one_back gap = ((λ back. (within, inr (none, back))), (λ is. elim is.1 [ inl on ↦ absurd (true≢false (sym on.0 ∙ ap is_some none)) | inr back ↦ back.1 ]))
       where
         none : listed_change list first ≡ None

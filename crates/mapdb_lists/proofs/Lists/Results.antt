@@ -1,10 +1,6 @@
 -- What holds of an answer that is no error.
 use Rattle.std.specs.Prelude.{IfOk, OnOk, Result, Ok, Err}
 
-pub on_ok : {T E : Type 0} {P Q : Type 0} (r : Result T E) → (P → Q) → OnOk r P → OnOk r Q
-on_ok (Ok v) f h = f h
-on_ok (Err e) f h = h
-
 pub on_both : {T E : Type 0} {P Q R : Type 0} (r : Result T E) → (P → Q → R) → OnOk r P → OnOk r Q → OnOk r R
 on_both (Ok v) f h k = f h k
 on_both (Err e) f h k = h

@@ -14,6 +14,7 @@ ghost use Rattle.mapdb_rights.specs.HeldPlaces.{place_of, source_of};
 ghost use Rattle.mapdb_rights.specs.Pending.{IsPending, share, weight};
 ghost use Rattle.mapdb_rights.specs.Right.{source_page};
 
+use super::short_lists::add_item;
 use super::stale::Stale;
 use mapdb_facts::{Facts, Record, RecordId, Space};
 use mapdb_fpage::PAGE_LIMIT;
@@ -43,12 +44,12 @@ fn push_child(
         return Ok(());
     }
     let first_page = child.place.first_page();
-    stack.push(Stale {
+    let stale = Stale {
         id: child.id,
         first: first_page + (low - child.source),
         end: first_page + (high - child.source),
-    })?;
-    Ok(())
+    };
+    add_item(stack, stale)
 }
 
 /// The pages of a child, if it is one of this parent, join what is stale.

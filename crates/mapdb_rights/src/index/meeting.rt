@@ -27,7 +27,7 @@ impl RightsIndex {
         facts: &Facts,
         space: Space,
         part: &Fpage,
-    ) -> Result<Option<Vec<Record>>, AllocError>
+    ) -> Result<Option<SmallVec<Record, 1>>, AllocError>
         requires { KeepsUp self.now (state_of_facts facts.now) }
         ensures absent { self.now.absent ≡ true → result ≡ Ok None }
         ensures there { self.now.absent ≡ false → IfOk result (λ found. IsSome found) }
@@ -56,7 +56,7 @@ impl RightsIndex {
         facts: &Facts,
         space: Space,
         part: &Fpage,
-    ) -> Result<Option<Vec<Record>>, AllocError>
+    ) -> Result<Option<SmallVec<Record, 1>>, AllocError>
         requires { KeepsUp self.now (state_of_facts facts.now) }
         ensures absent { self.now.absent ≡ true → result ≡ Ok None }
         ensures there { self.now.absent ≡ false → IfOk result (λ found. IsSome found) }
@@ -84,7 +84,7 @@ impl RightsIndex {
         facts: &Facts,
         parent: RecordId,
         part: &Fpage,
-    ) -> Result<Option<Vec<Record>>, AllocError>
+    ) -> Result<Option<SmallVec<Record, 1>>, AllocError>
         requires { KeepsUp self.now (state_of_facts facts.now) }
         ensures absent { self.now.absent ≡ true → result ≡ Ok None }
         ensures there { self.now.absent ≡ false → IfOk result (λ found. IsSome found) }

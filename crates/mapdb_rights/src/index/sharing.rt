@@ -18,6 +18,7 @@ ghost use Rattle.mapdb_lists.specs.declared.places.Listed.{Listed};
 ghost use Rattle.mapdb_rights.specs.AllBut.{IsAllBut};
 ghost use Rattle.mapdb_rights.specs.Meeting.{IsUnnamed, is_named, record_if, shares_part};
 
+use super::short_lists::add_item;
 use mapdb_facts::{Facts, Record, RecordId};
 use mapdb_fpage::Fpage;
 use mapdb_lists::{OwnPlaces, Owner, Places, Sweep};
@@ -39,7 +40,7 @@ fn add_many_names(
 {
     let mut sweep = Sweep::start();
     'places: while let Some(next) = own.next_place(first, end, sweep) {
-        names.push(next.place.id)?;
+        add_item(names, next.place.id)?;
         sweep = next.sweep;
     }
     Ok(())
@@ -64,7 +65,7 @@ fn add_names_of(
     };
     for place in places {
         if place.meets(first, end) {
-            names.push(place.id)?;
+            add_item(names, place.id)?;
         }
     }
     Ok(())
@@ -134,12 +135,13 @@ fn named_sharing(
     facts: &Facts,
     owner: Owner,
     part: &Fpage,
-) -> Result<Vec<Record>, AllocError>
+) -> Result<SmallVec<Record, 1>, AllocError>
     ensures { IfOk result (λ found. found.items ≡ filter_map
         (λ id. record_if (shares_part owner part.now) ((state_of_facts facts.now).record_at id))
         names.now) }
 {
-    let mut found = Vec::with_capacity(alloc, names.len())?;
+    let mut found = SmallVec::new(alloc);
+    found.reserve_exact(names.len())?;
     for id in names {
         if let Some(mapping) = record_sharing(facts, owner, part, *id) {
             found.push(mapping)?;
@@ -156,7 +158,7 @@ pub(crate) fn all_sharing(
     facts: &Facts,
     owner: Owner,
     part: &Fpage,
-) -> Result<Vec<Record>, AllocError>
+) -> Result<SmallVec<Record, 1>, AllocError>
     requires named { IsNamed (state_of_facts facts.now) }
     requires formed { (r : Record) → Holds (state_of_facts facts.now) r → IsFormedRecord r }
     ensures sharing { IfOk result (λ found.

@@ -8,7 +8,7 @@ use Rattle.mapdb_lists.specs.declared.own_changes.OwnChanges.{OwnChanges}
 use Rattle.mapdb_lists.specs.Changes.{IsRewritten, change_in}
 use Rattle.mapdb_lists.specs.OwnChanges.{own_change}
 use Rattle.mapdb_lists.proofs.ChangeLemmas.RecordChanges.{written_changed, written_new}
-use Rattle.mapdb_lists.proofs.Lists.Results.{on_ok}
+use Rattle.std.proofs.lemmas.Result.{on_ok_weaker}
 use Rattle.mapdb_facts.proofs.NameLemmas.NamedEntries.{found_at, found_nowhere, given_at, place_within}
 use Rattle.mapdb_lists.proofs.changes.write_among.Goals as goal
 
@@ -27,7 +27,7 @@ write-requires-clause-one c q above before =
 pub returns-in-Some : goal.returns-in-Some
 returns-in-Some c =
     let within : c.in-Some.at < length c.own_changes.inside.values.items = omega (arith, place_within c.own_changes.inside.names c.args.id c.in-Some.at (sym c.in-Some.ensures), c.own_changes.invariant) in
-    on_ok c.write.result
+    on_ok_weaker c.write.result
     (λ given. written_changed c.args.own_changes.now.entries _ c.args.id c.args.first c.args.end c.args.was c.args.change c.index_mut.result.now c.write.new.self
     (λ q. given_at c.own_changes.inside.names c.own_changes.inside.values.items c.args.id c.in-Some.at c.write.new.self (sym c.in-Some.ensures) within q
     ∙ ap (λ table. cond (same_id c.args.id q) (Some c.write.new.self) (lookup (same_id q) table.entries)) c.own_changes.view_is)
@@ -39,7 +39,7 @@ returns-in-Some c =
 
 pub returns : goal.returns
 returns c =
-    on_ok c.insert.result
+    on_ok_weaker c.insert.result
     (λ given. written_new c.args.own_changes.now.entries c.insert.new.self.entries c.args.id c.args.first c.args.end c.args.was c.args.change c.new-own.result c.write-2.new.self
     given
     (subst (λ (before : Change). IsRewritten (own_change c.new-own.result) before c.args.first c.args.end c.args.was c.args.change (own_change c.write-2.new.self)) c.first_change-before.ensures c.in_ok-write.ensures)

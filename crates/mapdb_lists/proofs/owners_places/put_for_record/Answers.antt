@@ -8,7 +8,7 @@ use Rattle.mapdb_lists.specs.declared.own_places.OwnPlace.{OwnPlace}
 use Rattle.mapdb_lists.specs.declared.own_places.OwnPlaces.{OwnPlaces}
 use Rattle.mapdb_lists.specs.Listing.{places_in}
 use Rattle.mapdb_lists.specs.OwnPlaces.{place_cmp, stands}
-use Rattle.mapdb_lists.proofs.Lists.Results.{on_ok}
+use Rattle.std.proofs.lemmas.Result.{on_ok_weaker}
 use Rattle.mapdb_facts.proofs.NameLemmas.NamedEntries.{found_at, found_nowhere, given_at, place_within}
 use Rattle.mapdb_lists.proofs.owners_places.put_for_record.Goals as goal
 
@@ -22,7 +22,7 @@ returns-in-Some c =
     sym (slice_get_read c.records.inside.values.items _ c.in-Some.at c.index_mut.result.now refl within c.index_mut.ensures.value)
     ∙ found_at c.records.inside.names c.records.inside.values.items c.args.id c.in-Some.at (sym c.in-Some.ensures) within
     ∙ ap (λ table. lookup (same_id c.args.id) table.entries) c.records.view_is in
-    on_ok c.insert.result
+    on_ok_weaker c.insert.result
     (λ put. record {
       own = c.insert.new.self;
       given = λ q. given_at c.records.inside.names c.records.inside.values.items c.args.id c.in-Some.at c.insert.new.self (sym c.in-Some.ensures) within q
@@ -36,7 +36,7 @@ returns c =
     let found : None ≡ lookup (same_id c.args.id) c.args.records.now.entries =
     found_nowhere c.records.inside.names c.records.inside.values.items c.args.id (sym c.place.ensures ∙ c.in_default.is)
     ∙ ap (λ table. lookup (same_id c.args.id) table.entries) c.records.view_is in
-    on_ok c.insert-3.result
+    on_ok_weaker c.insert-3.result
     (λ given. record {
       own = c.insert-2.new.self;
       given = given;

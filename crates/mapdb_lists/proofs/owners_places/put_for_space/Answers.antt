@@ -9,13 +9,13 @@ use Rattle.mapdb_lists.specs.declared.own_places.OwnPlace.{OwnPlace}
 use Rattle.mapdb_lists.specs.declared.own_places.OwnPlaces.{OwnPlaces}
 use Rattle.mapdb_lists.specs.Listing.{places_in}
 use Rattle.mapdb_lists.specs.OwnPlaces.{place_cmp, stands}
-use Rattle.mapdb_lists.proofs.Lists.Results.{on_ok}
+use Rattle.std.proofs.lemmas.Result.{on_ok_weaker}
 use Rattle.mapdb_lists.proofs.owners_places.put_for_space.Goals as goal
 
 pub returns-in-Some : goal.returns-in-Some
 returns-in-Some c =
     let found : Some c.in-Some.own.now ≡ lookup (same_space c.args.space) c.args.spaces.now.entries = sym (ap option_copied_mut c.in-Some.is) ∙ c.get_mut.ensures.value in
-    on_ok c.insert.result
+    on_ok_weaker c.insert.result
     (λ put. record {
       own = c.insert.new.self;
       given = ((c.get_mut.follows.holds c.insert.new.self).3 (search rules)).0;

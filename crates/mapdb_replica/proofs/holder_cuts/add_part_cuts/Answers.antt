@@ -1,4 +1,5 @@
-use Rattle.std.proofs.Common.{◌∙◌, ◌++◌, Global, List, Some, Vec, ap, append_assoc, subst}
+use Rattle.std.proofs.Common.{◌∙◌, ◌++◌, List, Some, ap, append_assoc, subst}
+use Rattle.smallvec.specs.SmallVec.{SmallVec}
 use Rattle.std.specs.Prelude.{IfSome, Option}
 use Rattle.std.specs.List.{filter_map}
 use Rattle.std.proofs.lemmas.Result.{on_ok_weaker}
@@ -24,7 +25,7 @@ returns c =
     let lost : List Op = filter_map (child_cut c.args.part.now c.args.rights c.args.id) records in
     let left : List Op = filter_map cut c.unwrap-children.result.items in
     let listed : IsAllBut (IsRevoked S) (children_of records c.args.id c.args.part.now) c.unwrap-children.result.items =
-    subst (λ (o : Option (Vec Record Global)). IfSome o (λ list. IsAllBut (IsRevoked S) (children_of records c.args.id c.args.part.now) list.items))
+    subst (λ (o : Option (SmallVec Record)). IfSome o (λ list. IsAllBut (IsRevoked S) (children_of records c.args.id c.args.part.now) list.items))
     c.unwrap-children.ensures c.in_ok-children.ensures.children in
     let known : IsAllBut (IsOld S) lost left =
     children_left c.args.facts.now c.args.index.now c.requires.there c.requires.kept c.args.id c.args.part.now c.args.rights c.prove_place.ensures c.unwrap-children.result.items listed in
@@ -32,7 +33,7 @@ returns c =
     (λ added. record {
       more = left ++ own;
       is = added
-          ∙ ap (λ (ops : List Op). ops ++ own) (c.in_ok-add_child_cuts.ensures ∙ ap (λ (rs : List Record). c.args.found.now.items ++ filter_map cut rs) c.as_slice.ensures.value)
+          ∙ ap (λ (ops : List Op). ops ++ own) (c.in_ok-add_child_cuts.ensures ∙ ap (λ (rs : List Record). c.args.found.now.items ++ filter_map cut rs) c.as_slice.ensures)
           ∙ append_assoc c.args.found.now.items left own;
       all_but = all_but-append (IsOld S) lost own left own known (all_stay (IsOld S) own);
     })

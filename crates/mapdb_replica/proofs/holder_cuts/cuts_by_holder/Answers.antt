@@ -1,4 +1,5 @@
-use Rattle.std.proofs.Common.{◌≡◌, ◌∙◌, ◌++◌, [], Global, List, Ok, Vec, ap, false, subst, sym}
+use Rattle.std.proofs.Common.{◌≡◌, ◌∙◌, ◌++◌, [], List, Ok, ap, false, subst, sym}
+use Rattle.smallvec.specs.SmallVec.{SmallVec}
 use Rattle.std.specs.Prelude.{IfSome, Option, map}
 use Rattle.std.specs.List.{flat_map}
 use Rattle.mapdb_facts.specs.Facts.{records_of_facts, state_of_facts}
@@ -23,8 +24,8 @@ returns c =
     let first : List Op = flat_map cuts (first_holders c.args.space) in
     let later : List Op = flat_map cuts (map holder_of c.as_slice.result.now) in
     let listed : IsAllBut (IsRevokedBelow S) (holders_of records c.args.space c.args.page.now) c.as_slice.result.now =
-    subst (λ (rs : List Record). IsAllBut (IsRevokedBelow S) (holders_of records c.args.space c.args.page.now) rs) (sym c.as_slice.ensures.value)
-    (subst (λ (o : Option (Vec Record Global)). IfSome o (λ list. IsAllBut (IsRevokedBelow S) (holders_of records c.args.space c.args.page.now) list.items)) c.in-Some.is c.in_ok-held.ensures.holders) in
+    subst (λ (rs : List Record). IsAllBut (IsRevokedBelow S) (holders_of records c.args.space c.args.page.now) rs) (sym c.as_slice.ensures)
+    (subst (λ (o : Option (SmallVec Record)). IfSome o (λ list. IsAllBut (IsRevokedBelow S) (holders_of records c.args.space c.args.page.now) list.items)) c.in-Some.is c.in_ok-held.ensures.holders) in
     let there : c.args.index.now.absent ≡ false =
     answers_there c.args.index.now c.holders.result c.in-Some.held c.holders.ensures.absent (c.in_ok-held.was ∙ ap Ok c.in-Some.is) in
     let found : Adds S (first ++ later) [] c.add_record_cuts.new.found.items =

@@ -4,7 +4,8 @@ use Rattle.mapdb_facts.specs.Looking.{Holds}
 use Rattle.mapdb_facts.specs.State.{State}
 use Rattle.mapdb_facts.specs.declared.operations.Record.{Record}
 use Rattle.mapdb_facts.proofs.Lists.SameNames.{some_same}
-use Rattle.mapdb_lists.proofs.Lists.Results.{on_both, on_ok}
+use Rattle.std.proofs.lemmas.Result.{on_ok_weaker}
+use Rattle.mapdb_lists.proofs.Lists.Results.{on_both}
 use Rattle.std.specs.Prelude.{◌⊎◌}
 use Rattle.mapdb_lists.specs.Listing.{AllAligned, is_listed}
 use Rattle.mapdb_lists.specs.declared.places.Listed.{Listed}
@@ -31,7 +32,7 @@ returns-in-Some-clause-listed c =
 
 pub returns-in-Some-clause-there : goal.returns-in-Some-clause-there
 returns-in-Some-clause-there c =
-    on_ok c.list_place.result
+    on_ok_weaker c.list_place.result
     (λ there r at. subst (λ (x : Record). is_listed c.list_place.new.listed (place_of x) ≡ true) (some_same c.in-Some.mapping r (sym c.in-Some.is ∙ c.record.ensures.held ∙ at))
     (subst (λ (e : Listed). is_listed c.list_place.new.listed e ≡ true) c.place_of.ensures.is there))
     c.list_place.ensures.there

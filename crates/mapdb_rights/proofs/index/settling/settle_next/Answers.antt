@@ -1,7 +1,8 @@
 use Rattle.std.proofs.Common.{arith}
 use Rattle.mapdb_facts.specs.Facts.{state_of_facts}
 use Rattle.mapdb_lists.specs.Changes.{cached_in}
-use Rattle.mapdb_lists.proofs.Lists.Results.{on_both, on_ok}
+use Rattle.std.proofs.lemmas.Result.{on_ok_weaker}
+use Rattle.mapdb_lists.proofs.Lists.Results.{on_both}
 use Rattle.mapdb_lists.specs.Listing.{listed_len}
 use Rattle.mapdb_rights.specs.Pending.{base_of}
 use Rattle.mapdb_rights.proofs.Settling.Pendings.{weight-last}
@@ -26,7 +27,7 @@ returns-clause-settled c =
 
 pub returns-clause-weight : goal.returns-clause-weight
 returns-clause-weight c =
-    on_ok c.settle_run.result
+    on_ok_weaker c.settle_run.result
     (λ w. weight_falls (listed_len c.args.listed.now) c.args.stack.now.items c.keep_rest.new.stack.items c.settle_run.new.stack.items c.args.stale c.min-end.result
     (omega arith) (omega arith) (c.in_ok-keep_rest.ensures.weight (base_of c.args.listed.now)) (w (base_of c.args.listed.now) (omega arith)))
     c.settle_run.ensures.weight

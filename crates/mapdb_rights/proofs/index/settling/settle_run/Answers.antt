@@ -6,7 +6,8 @@ use Rattle.mapdb_facts.specs.State.{State}
 use Rattle.mapdb_facts.specs.declared.names.RecordId.{RecordId}
 use Rattle.mapdb_lists.specs.Changes.{Cached, cached_in, covers}
 use Rattle.mapdb_lists.specs.declared.changes.Change.{Change}
-use Rattle.mapdb_lists.proofs.Lists.Results.{on_any, on_ok}
+use Rattle.std.proofs.lemmas.Result.{on_ok_weaker}
+use Rattle.mapdb_lists.proofs.Lists.Results.{on_any}
 use Rattle.mapdb_rights.specs.Pending.{IsPending}
 use Rattle.mapdb_rights.proofs.Rights.FramesFrom.{frames_written}
 use Rattle.mapdb_rights.proofs.Settling.Settlement.{settled_after, settled_already, to_covers}
@@ -26,7 +27,7 @@ pub returns-clause-settled : goal.returns-clause-settled
 returns-clause-settled c =
     let S : State = state_of_facts c.args.facts.now in
     let step = c.requires.step in
-    on_ok c.push_children.result
+    on_ok_weaker c.push_children.result
     (λ pushed. settled_after S (cached_in c.args.changes.now.own.entries) (cached_in c.write.new.changes.own.entries) c.args.run.id c.args.run.first c.args.run.end c.args.next.change.rights
     (λ q from before_end. step.follows.rights q from (omega arith)) c.in_ok-write.ensures.cached c.requires.listed.named c.requires.listed.formed c.push_children.new.stack.items
     (λ other r held parent page inside from before.

@@ -2,7 +2,7 @@ use Rattle.std.proofs.Common.{[], sym, ◌∙◌}
 use Rattle.std.proofs.lemmas.Bool.{false≢true}
 use Rattle.mapdb_lists.specs.Listing.{meets, own_place}
 use Rattle.mapdb_lists.specs.OwnPlaces.{own_list}
-use Rattle.mapdb_lists.proofs.Lists.Results.{on_ok}
+use Rattle.std.proofs.lemmas.Result.{on_ok_weaker}
 use Rattle.mapdb_lists.proofs.PlaceLemmas.OwnersPlaces.{own_aligned, there}
 use Rattle.mapdb_rights.proofs.index.sharing.add_names.Goals as goal
 
@@ -11,7 +11,7 @@ add_names_of-requires c = own_aligned c.args.listed.now c.args.owner (own_list c
 
 pub returns-in-Some-clause-named : goal.returns-in-Some-clause-named
 returns-in-Some-clause-named c =
-    on_ok c.add_names_of.result
+    on_ok_weaker c.add_names_of.result
     (λ each e has own meeting. each (own_place e) (there c.args.listed.now c.args.owner (own_list c.in-Some.own.now) (sym c.in-Some.ensures) e own has)
     ((λ i. meets e (c.first_page.ensures.page i) (c.end.ensures.end i)) ∙ meeting))
     c.add_names_of.ensures.named

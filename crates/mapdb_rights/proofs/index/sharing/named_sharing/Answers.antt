@@ -15,7 +15,7 @@ loop-id-preserved c =
     looked_more find c.args.names.now c.loop-id.id-index (record { number = 0; processor = 0 }) c.loop-id.found.items c.match-record_sharing.found.items (filter_map find c.args.names.now) c.loop-id-test.true
     (elim c.match-record_sharing.branch [
       | in-Some+in_ok-push w ↦
-          ap (λ found. found.items) w.found-is ∙ w.in_ok-push.ensures.items
+          ap (λ found. found.items) w.found-is ∙ w.in_ok-push.ensures.ok
           ∙ ap (λ (o : Option Record). c.loop-id.found.items ++ cons_option o []) (sym w.in-Some.is ∙ c.record_sharing.ensures)
       | in_default w ↦
           ap (λ found. found.items) w.found-is ∙ sym (append-nil c.loop-id.found.items)

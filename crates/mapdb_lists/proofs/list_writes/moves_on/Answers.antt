@@ -4,7 +4,7 @@ use Rattle.mapdb_lists.specs.Changes.{left_before}
 use Rattle.mapdb_lists.specs.OwnChanges.{listed_change}
 use Rattle.mapdb_lists.proofs.ChangeLemmas.FewChanges.{front_there}
 use Rattle.mapdb_lists.proofs.ChangeLemmas.MovedChanges.{none_behind}
-use Rattle.mapdb_lists.proofs.list_writes.goes_on.Goals as goal
+use Rattle.mapdb_lists.proofs.list_writes.moves_on.Goals as goal
 
 pub returns-then-is : goal.returns-then-is
 returns-then-is c first there some one =
