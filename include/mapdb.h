@@ -61,6 +61,7 @@
 extern "C" {
 #endif
 
+/* Of a call: its pointers are not null, and of MAPDB_CALL that its status is looked at. */
 #if defined(__GNUC__)
 #define MAPDB_CALL __attribute__((nonnull, warn_unused_result))
 #define MAPDB_NONNULL __attribute__((nonnull))
@@ -187,7 +188,7 @@ typedef struct mapdb_copy {
  */
 typedef struct mapdb_space {
     uint32_t number;             /* 0: below 2^16 */
-    uint32_t version;            /* 4 */
+    uint32_t version;            /* 4: which use of the number, from 0 on */
 } mapdb_space;
 
 /*
@@ -261,8 +262,8 @@ typedef struct mapdb_taken {
 
 /* A frame with rights: 16 bytes. */
 typedef struct mapdb_found {
-    uint64_t frame;              /* 0 */
-    uint32_t rights;             /* 8 */
+    uint64_t frame;              /* 0: the frame, below 2^36 */
+    uint32_t rights;             /* 8: added up */
     uint32_t reserved;           /* 12: 0 */
 } mapdb_found;
 
@@ -271,11 +272,11 @@ typedef struct mapdb_found {
  * rights: 40 bytes.
  */
 typedef struct mapdb_row {
-    mapdb_space space;           /* 0 */
+    mapdb_space space;           /* 0: whose pages they are */
     uint64_t page;               /* 8: the first page */
     uint64_t count;              /* 16: how many pages */
     uint64_t frame;              /* 24: the frame of the first page */
-    uint32_t rights;             /* 32 */
+    uint32_t rights;             /* 32: of each page, added up */
     uint32_t reserved;           /* 36: 0 */
 } mapdb_row;
 

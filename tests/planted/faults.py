@@ -17,7 +17,8 @@ SHOWN = 600
 # The smallest scripts of which something is told.
 ONE_END = Script("one_end", ["run"], b"processors 1\nend 0 1\n", b"ended 1\n", 0)
 END_AND_SAVE = Script("end_and_save", ["run"], b"processors 1\nend 0 1\nsave 0\n",
-                      b'ended 1\nsnapshot {"cuts":[],"ended":[[1,0]],"records":[],"version":3}\n', 0)
+                      b"ended 1\n"
+                      b'snapshot {"cuts":[],"ended":[[1,0]],"records":[],"version":3}\n', 0)
 ONE_THREAD = Script("one_thread", ["threads"], b"processors 1\nend 0 1\n",
                     b"processor 0 commands 1 issued 1\nsame yes\n", 0)
 

@@ -103,8 +103,8 @@ impl Replica {
         Ok(Replica { handle })
     }
 
-    /// Maps what a page with rights and a send base carry from the sender's space into the
-    /// receiver's window.
+    /// Maps what a page with rights and a send base (bytes) carry from the sender's space into the
+    /// receiver's window. Errors: as of `mapdb_map` (include/mapdb.h).
     pub fn map(
         &mut self,
         sender: Space,
@@ -130,7 +130,8 @@ impl Replica {
         Ok(records(&issued))
     }
 
-    /// Maps by the kernel's words: the two of a map item, and that of a receive window.
+    /// Maps by the kernel's words: the two of a map item, and that of a receive window. Errors: as
+    /// of `mapdb_map_words`.
     pub fn map_words(
         &mut self,
         sender: Space,
@@ -160,7 +161,7 @@ impl Replica {
     /// space received it itself, and with `flush` from those pages too. Without `flush` a child of
     /// the space's own pages that this copy has not seen keeps its rights, and so does, even with
     /// it, a record of the space itself that this copy has not seen. It answers how many operations
-    /// were issued. Errors: as of `mapdb_unmap` (include/mapdb.h).
+    /// were issued. Errors: as of `mapdb_unmap`.
     pub fn unmap(&mut self, space: Space, page: &Fpage, flush: bool) -> Result<u64, IssueError> {
         let mut issued = Issued::default();
         // SAFETY: as of `map`.
