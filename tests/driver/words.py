@@ -8,8 +8,8 @@ from driver.scripts import content
 from driver.streams import run_on_folder
 from driver.tally import Met
 
-NO_PAGE = """error: a space is a decimal number, or NUMBER.VERSION, \
-and an address is hexadecimal without a prefix
+NO_PAGE = """error: SPACE is a decimal number up to 65535, or NUMBER.VERSION with a version up to \
+4294967295; ADDRESS is 1 to 16 hexadecimal digits without a prefix, and below 2^48
 """
 MISSING = "error: the following required arguments were not provided:\n"
 USAGE = {

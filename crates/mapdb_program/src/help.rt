@@ -22,7 +22,8 @@ pub const NO_CAPACITY: &str = "the capacity of a link is a number from 1 to 1024
 
 /// Why a space and an address are refused.
 pub const NO_PAGE: &str = "\
-a space is a decimal number, or NUMBER.VERSION, and an address is hexadecimal without a prefix";
+SPACE is a decimal number up to 65535, or NUMBER.VERSION with a version up to 4294967295; \
+ADDRESS is 1 to 16 hexadecimal digits without a prefix, and below 2^48";
 
 /// What `picture` does, in a line.
 pub const PICTURE_ABOUT: &str =

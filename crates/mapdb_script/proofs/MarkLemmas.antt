@@ -174,11 +174,6 @@ covers_told c at other covers found =
     ap seen_of (compared_found c at other found.0 found.1 covers_answer found.2 found.3)
     ∙ ap (λ (b : Bool). seen_of (Ok (record { reply = Answered (covers_text b); cluster = c }))) (sym found.4)
 
-pub differ_told : (c : ScriptCluster) (at other : ℕ) → Found c.net.copies at other false → seen_of (compared c at other same_answer) ≡ Ok (Answered (same_text false), c.net)
-differ_told c at other found =
-    ap seen_of (compared_found c at other found.0 found.1 same_answer found.2 found.3)
-    ∙ ap (λ (b : Bool). seen_of (Ok (record { reply = Answered (same_text (b && knows_all found.1.ops found.0.ops)); cluster = c }))) (sym found.4)
-
 pub same_told : (c : ScriptCluster) (at other : ℕ) (covered : Bool) → Found c.net.copies at other true → Found c.net.copies other at covered → seen_of (compared c at other same_answer) ≡ Ok (Answered (same_text covered), c.net)
 same_told c at other covered first second =
     let two_is : second.0 ≡ first.1 = one_there c.net.copies other second.0 first.1 second.2 first.3 in

@@ -5,7 +5,7 @@ use Rattle.std.proofs.Math.Seq.{get_or-append_seam, set-append_seam}
 use Rattle.std.specs.List.{filter}
 use Rattle.std.specs.Prelude.{Result, Some, count_by, not, slice_set, ◌==◌, Err, Ok, OnOk, is_ok, max, nat_le}
 use Rattle.std.proofs.lemmas.Bool.{and_from, and_parts, cases_Bool, cond-false, eqb-true, leb-false, leb-true, not-true}
-use Rattle.std.proofs.lemmas.List.{drop_all, drop-append-le, length-append, length-drop, length-take-le, map-append, set-append_left, take-append-drop, take-append-le, take-take}
+use Rattle.std.proofs.lemmas.List.{drop_all, drop-append-le, length-append, length-drop, length-take-le, set-append_left, take-append-drop, take-append-le, take-take}
 use Rattle.std.proofs.Math.Seq.{take-length}
 use Rattle.std.proofs.lemmas.List.Elements.{All-head, All-tail, All-weaker, filter-append}
 use Rattle.std.proofs.lemmas.List.Sums.{length-filter}
@@ -233,10 +233,6 @@ module _ (copies : List Log) (at : ℕ) (old new : Log) (there : slice_get copie
   messages_stay (sending ∷ sendings) all =
       ap (λ (ops : List Op). ops ∷ messages_of (slice_set copies at new) sendings) (one_stays sending (All-head (IsSent copies) sending sendings all)).1
       ∙ ap (λ (rest : List (List Op)). ops_sent copies sending ∷ rest) (messages_stay sendings (All-tail (IsSent copies) sending sendings all))
-
--- one message more
-pub message_more : (copies : List Log) (sendings : List Sending) (sending : Sending) → messages_of copies (sendings ++ sending ∷ []) ≡ messages_of copies sendings ++ ops_sent copies sending ∷ []
-message_more copies sendings sending = map-append (ops_sent copies) sendings (sending ∷ [])
 
 -- a message among them
 pub message_at : (copies : List Log) (sendings : List Sending) (i : ℕ) (sending : Sending) → slice_get sendings i ≡ Some sending → slice_get (messages_of copies sendings) i ≡ Some (ops_sent copies sending)

@@ -21,8 +21,8 @@ pub(crate) struct Mark {
     pub(crate) known: usize,
 }
 
-/// Nothing is known of any two of so many copies: a row for each copy, with a number for each other
-/// one. An error where memory ran out.
+/// Nothing is known of any two of so many copies: a row for each copy, with a number for each. An
+/// error where memory ran out.
 pub(crate) fn none_known(alloc: Global, count: usize) -> Result<Vec<Vec<usize>>, AllocError>
     ensures { IfOk result (λ rows. (copies : List Log) → AreMarks copies rows.items) }
 {

@@ -1,9 +1,9 @@
 -- How far steady pages, one behind the other, belong to one run.
-use Rattle.std.proofs.Common.{◌≡◌, ℕ, ◌+◌, ◌-◌, ◌<◌, ◌≤◌, List, [], ◌∷◌, true, false, sym, ap, subst, ◌∙◌, arith}
+use Rattle.std.proofs.Common.{◌≡◌, ℕ, ◌+◌, ◌-◌, ◌<◌, ◌≤◌, List, ◌∷◌, true, sym, ap, subst, ◌∙◌, arith}
 use Rattle.std.specs.Prelude.{Option}
 use Rattle.mapdb_fpage.specs.Bounds.{page_limit}
 use Rattle.mapdb_replica.specs.Pairs.{Pair}
-use Rattle.mapdb_replica.specs.Running.{IsRunEnd, IsSteadyPart, continues, pair_on}
+use Rattle.mapdb_replica.specs.Running.{IsSteadyPart, continues, pair_on}
 use Rattle.mapdb_replica.proofs.Pages.RunningPages.{Runs, longer}
 use Rattle.mapdb_rights.specs.ShownSpaces.{CoverPages}
 use Rattle.mapdb_rights.specs.declared.index.served_pages.SteadyPages.{SteadyPages}
@@ -17,16 +17,6 @@ module _ (f : ℕ → Option Pair) where
     pub limit : end ≤ page_limit
     pub same : Runs f page end
     pub left : CoverPages (IsSteadyPart f) end page_limit rest
-
-  pub run_begins : (page : ℕ) (first : SteadyPages) (rest : List SteadyPages) → CoverPages (IsSteadyPart f) page page_limit (first ∷ rest) → RunsTo page first first.end rest
-  run_begins page first rest h = record {
-    begins = h.0.0;
-    here = h.0.1.here ∙ ap f h.0.0;
-    above = subst (λ n. n < first.end) h.0.0 h.0.1.above;
-    limit = h.0.1.limit;
-    same = subst (λ n. Runs f n first.end) h.0.0 h.0.1.same;
-    left = h.1;
-  }
 
   -- the next pages go on in it
   pub run_on : (page : ℕ) (first : SteadyPages) (end : ℕ) (next : SteadyPages) (rest : List SteadyPages) → continues first.served (end - first.page) next.served ≡ true
@@ -52,26 +42,3 @@ module _ (f : ℕ → Option Pair) where
           ap (λ (o : Option Pair). continues o (end - page) (f end)) (sym here)
           ∙ ap (λ (o : Option Pair). continues first.served (end - page) o) (sym there)
           ∙ ap (λ n. continues first.served (end - n) next.served) (sym begins)
-
-  -- they do not
-  pub run_over : (page : ℕ) (first : SteadyPages) (end : ℕ) (next : SteadyPages) (rest : List SteadyPages) → continues first.served (end - first.page) next.served ≡ false
-      → RunsTo page first end (next ∷ rest) → IsRunEnd f page end
-  run_over page first end next rest off h = record {
-    above = h.above;
-    limit = h.limit;
-    same = h.same;
-    other = λ below.
-        ap (λ (o : Option Pair). continues o (end - page) (f end)) (sym h.here)
-        ∙ ap (λ (o : Option Pair). continues first.served (end - page) o) (sym (h.left.0.1.here ∙ ap f h.left.0.0))
-        ∙ ap (λ n. continues first.served (end - n) next.served) (sym h.begins)
-        ∙ off;
-  }
-
-  -- there are none
-  pub run_last : (page : ℕ) (first : SteadyPages) (end : ℕ) → RunsTo page first end [] → IsRunEnd f page end
-  run_last page first end h = record {
-    above = h.above;
-    limit = h.limit;
-    same = h.same;
-    other = λ below. absurd (omega (arith, h.left, below));
-  }

@@ -1,7 +1,7 @@
 -- Each kind of event, as a step of the net.
 use Rattle.std.proofs.Common.{◌≡◌, ℕ, Bool, true, false, Err, Ok, Result, Some, refl, sym, subst, ap, ◌∙◌, List, length}
-use Rattle.std.specs.Prelude.{◌≢◌, ◌==◌, IfSome, IsOk, Option, None, slice_get, if◌then◌else◌}
-use Rattle.std.proofs.lemmas.Bool.{eq-eqb, eqb-true, false≢true}
+use Rattle.std.specs.Prelude.{◌≢◌, ◌==◌, IfSome, IsOk, Option, slice_get, if◌then◌else◌}
+use Rattle.std.proofs.lemmas.Bool.{eqb-true, false≢true}
 use Rattle.mapdb_facts.specs.declared.operations.Op.{Op}
 use Rattle.mapdb_replica.specs.Commands.{Replies, command_outcome}
 use Rattle.mapdb_replica.specs.Giving.{given}
@@ -17,47 +17,18 @@ use Rattle.mapdb_cluster.specs.declared.events.Event.TheVariants.{Deliver, Issue
 use Rattle.mapdb_cluster.specs.declared.events.Refusal.TheVariants as refusal
 use Rattle.mapdb_cluster.specs.declared.events.Reply.{Reply}
 use Rattle.mapdb_cluster.specs.declared.events.Reply.TheVariants.{Refused, Sent, Taken}
-use Rattle.mapdb_cluster.proofs.Steps.StepTells.{Tells, command_tells, more_tells, none_given, refused_tells, take_tells, tells_step}
+use Rattle.mapdb_cluster.proofs.Steps.StepTells.{Tells, command_tells, more_tells, none_given, take_tells, tells_step}
 
 module _ (net : Net) where
   -- at a processor that is there
   at_there : (at : ℕ) (copy : Log) (done : Log → Done) → slice_get net.copies at ≡ Some copy → at_processor net at done ≡ done copy
   at_there at copy done there = ap (λ (o : Option Log). at_copy net o done) there
 
-  -- a processor that is not there
-  pub issue_nowhere : (at : ℕ) (command : Command) → slice_get net.copies at ≡ None → Steps net (Issue at command) (Refused refusal.NoProcessor) net
-  issue_nowhere at command gone =
-      tells_step net (Issue at command) _ (Refused refusal.NoProcessor) net (λ memory. ap (λ (o : Option Log). at_copy net o (λ copy. issue_done net at copy command memory (command_outcome copy command))) gone) (refused_tells net refusal.NoProcessor) tt
-
-  pub send_nowhere : (from first end : ℕ) → slice_get net.copies from ≡ None → Steps net (Send from first end) (Refused refusal.NoProcessor) net
-  send_nowhere from first end gone =
-      tells_step net (Send from first end) _ (Refused refusal.NoProcessor) net (λ memory. ap (λ (o : Option Log). at_copy net o (λ copy. send_done net memory (given copy.ops first end))) gone) (refused_tells net refusal.NoProcessor) tt
-
-  pub deliver_nowhere : (message to : ℕ) → slice_get net.copies to ≡ None → Steps net (Deliver message to) (Refused refusal.NoProcessor) net
-  deliver_nowhere message to gone =
-      tells_step net (Deliver message to) _ (Refused refusal.NoProcessor) net (λ memory. ap (λ (o : Option Log). at_copy net o (λ copy. delivered net memory to (slice_get net.messages message) copy)) gone) (refused_tells net refusal.NoProcessor) tt
-
-  pub join_into_nowhere : (into from : ℕ) → slice_get net.copies into ≡ None → Steps net (Join into from) (Refused refusal.NoProcessor) net
-  join_into_nowhere into from gone =
-      tells_step net (Join into from) _ (Refused refusal.NoProcessor) net (λ memory. ap (λ (o : Option Log). at_copy net o (λ copy. at_processor net from (λ other. joined net memory into from copy other))) gone) (refused_tells net refusal.NoProcessor) tt
-
-  pub join_from_nowhere : (into from : ℕ) (copy : Log) → slice_get net.copies into ≡ Some copy → slice_get net.copies from ≡ None → Steps net (Join into from) (Refused refusal.NoProcessor) net
-  join_from_nowhere into from copy there gone =
-      tells_step net (Join into from) _ (Refused refusal.NoProcessor) net
-      (λ memory. at_there into copy (λ c. at_processor net from (λ other. joined net memory into from c other)) there ∙ ap (λ (o : Option Log). at_copy net o (λ other. joined net memory into from copy other)) gone)
-      (refused_tells net refusal.NoProcessor) tt
-
   pub issue_step : (at : ℕ) (copy new : Log) (command : Command) (reply : Reply) → slice_get net.copies at ≡ Some copy → Replies applied_reply command copy reply new → Steps net (Issue at command) reply (with_copy net at new)
   issue_step at copy new command reply there is =
       tells_step net (Issue at command) (λ memory. issue_done net at copy command memory (command_outcome copy command)) reply (with_copy net at new)
       (λ memory. at_there at copy (λ c. issue_done net at c command memory (command_outcome c command)) there)
       (command_tells net at copy new command there reply is) (none_given reply)
-
-  pub deliver_missing : (message to : ℕ) (copy : Log) → slice_get net.copies to ≡ Some copy → slice_get net.messages message ≡ None → Steps net (Deliver message to) (Refused refusal.NoMessage) net
-  deliver_missing message to copy there gone =
-      tells_step net (Deliver message to) _ (Refused refusal.NoMessage) net
-      (λ memory. at_there to copy (λ c. delivered net memory to (slice_get net.messages message) c) there ∙ ap (λ (o : Option (List Op)). delivered net memory to o copy) gone)
-      (refused_tells net refusal.NoMessage) tt
 
   pub deliver_step : (message to : ℕ) (copy new : Log) (batch : List Op) (reply : Reply) → slice_get net.copies to ≡ Some copy → slice_get net.messages message ≡ Some batch → TakesWith batch copy reply new
       → Steps net (Deliver message to) reply (with_copy net to new)
@@ -88,14 +59,6 @@ module _ (net : Net) where
     where
       given_other : (fault : TakeFault) → HasMoreAt (with_copy net into new) into other.ops fault → HasMoreOf net (Join into from) (with_copy net into new) fault
       given_other fault more = subst (λ (o : Option Log). IfSome o (λ (log : Log). HasMoreAt (with_copy net into new) into log.ops fault)) (sym here) more
-
-  pub join_itself : (into from : ℕ) (copy : Log) → slice_get net.copies into ≡ Some copy → into ≡ from → Steps net (Join into from) (Taken 0) net
-  join_itself into from copy there same =
-      tells_step net (Join into from) (λ memory. record { reply = Taken 0; net = net; taker = into; took = copy.ops }) (Taken 0) net
-      (λ memory. at_there into copy (λ c. at_processor net from (λ o. joined net memory into from c o)) there
-      ∙ at_there from copy (λ o. joined net memory into from copy o) (subst (λ n. slice_get net.copies n ≡ Some copy) same there)
-      ∙ joined_where memory into from copy copy true (eq-eqb into from same))
-      (record { replied = refl; left = refl; part = tt }) tt
 
   -- sending
   module _ (from first end : ℕ) (copy : Log) (there : slice_get net.copies from ≡ Some copy) where
