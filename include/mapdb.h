@@ -484,7 +484,9 @@ MAPDB_CALL uint32_t mapdb_snapshot(mapdb_copy *copy, uint8_t *room, size_t lengt
 
 /*
  * Takes what a snapshot says, as mapdb_take takes a batch: its records, then its revocations, then
- * its ends.
+ * its ends. Each row counts as an operation, and a snapshot may have more rows than its copy has
+ * operations (docs/SCRIPT.md, "Snapshots"): so that of a copy may be MAPDB_FULL. mapdb_give and
+ * mapdb_take bring any copy elsewhere.
  *   MAPDB_NO_COPY: *taken is not written.
  *   MAPDB_NOT_JSON, MAPDB_SNAPSHOT_SHAPE, MAPDB_SNAPSHOT_VERSION, or that of a place: nothing is
  *     changed, and *taken is 0 throughout: it has no place.

@@ -92,6 +92,17 @@ log_checking() {
         "database: revocations 1" \
         "processor 0 was last changed by line 4: map 0 0 11000/12:rw- 0 1 41000/12" "status 1" \
         -- "$checking/first_difference.py" "$folder/count.log"
+    sed 's/^#=/  #=/' "$checking/kernel.log" >"$folder/indented.log"
+    expect "checking: answers behind blanks" \
+        "line 38: served 1 2 80000" "kernel:   served 00010:rw-" "database: served 00010:r--" \
+        "processor 1 was last changed by line 34: deliver 1 1" "status 1" \
+        -- "$checking/first_difference.py" "$folder/indented.log"
+    expect "checking: a program that answers nothing" \
+        "the replay has 0 replies to 27 lines" "status 2" \
+        -- env L4MAP="$(type -P true)" "$checking/first_difference.py" "$folder/good.log"
+    expect "checking: a folder in place of the program" \
+        "[Errno 13] Permission denied: '$folder'" "status 2" \
+        -- env L4MAP="$folder" "$checking/first_difference.py" "$folder/good.log"
 }
 
 # The version, as each file that has it names it: a line for each.

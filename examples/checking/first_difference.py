@@ -50,8 +50,8 @@ def lines_in(log: str) -> list[Line]:
     found: list[Line] = []
     for number, text in enumerate(log.split("\n"), 1):
         words = text.split()
-        if text.startswith("#=") and found:
-            found[-1].shown.append(text[2:].strip())
+        if words and words[0].startswith("#=") and found:
+            found[-1].shown.append(text.strip()[2:].strip())
         elif words and not words[0].startswith("#") and words[0] != "processors":
             found.append(Line(number, text.strip(), []))
     return found
@@ -66,9 +66,12 @@ def replies_in(output: str) -> Iterator[list[str]]:
 
 
 def frames(answer: list[str]) -> dict[str, set[str]]:
-    """What a page shows: its frames, each with its rights."""
+    """What a page shows: its frames, each with its rights; those of a frame told twice together."""
     pairs = [word.split(":") for word in answer[0].split()[1:] if word != "none"]
-    return {frame: set(rights) - {"-"} for frame, rights in pairs}
+    shown: dict[str, set[str]] = {}
+    for frame, rights in pairs:
+        shown.setdefault(frame, set()).update(set(rights) - {"-"})
+    return shown
 
 
 def is_less(line: Line, reply: list[str]) -> bool:
@@ -106,6 +109,9 @@ def compare(lines: list[Line], output: str, exact: bool) -> int:
     """Compares answers with replies until one differs. A faulty line's reply is the last one."""
     replies = list(replies_in(output))
     fault = replies.pop()[0] if replies and replies[-1][0].startswith("line ") else None
+    if not fault and len(replies) != len(lines):
+        print("the replay has %d replies to %d lines" % (len(replies), len(lines)))
+        return 2
     replayed = list(zip(lines, replies))
     less = 0
     for place, (line, reply) in enumerate(replayed):
@@ -130,7 +136,7 @@ def main() -> int:
     parser.add_argument("--exact", action="store_true", help="also tell where a page shows less")
     parser.add_argument("log")
     chosen = parser.parse_args()
-    program = os.environ.get("L4MAP", BUILT)
+    program = os.path.abspath(os.environ.get("L4MAP", BUILT))
     if not os.access(program, os.X_OK):
         print("%s is not there: ./l4map builds it, and L4MAP names another" % program)
         return 2
@@ -140,7 +146,11 @@ def main() -> int:
     except OSError as error:
         print(error)
         return 2
-    done = subprocess.run([program, "run"], input=log, capture_output=True)
+    try:
+        done = subprocess.run([program, "run"], input=log, capture_output=True)
+    except OSError as error:
+        print(error)
+        return 2
     if done.returncode > 1 or done.returncode < 0:
         print("the replay ended with status %d" % done.returncode)
         sys.stderr.buffer.write(done.stderr)
