@@ -3,7 +3,7 @@
 ghost use Rattle.std.specs.Prelude.{◌≡◌, ◌≤◌, ◌<◌, ◌↔◌, ℕ, Some, None, IfErr, IfNone, IfOk};
 ghost use Rattle.std.specs.Prelude.{IfSome, IsTrue, OnErr, OnOk, get_or, length, slice_set, false};
 ghost use Rattle.std.specs.Prelude.{true};
-ghost use Rattle.std.specs.List.{insert, remove};
+ghost use Rattle.std.specs.List.{insert};
 ghost use Rattle.std.specs.Option.{unwrap_or};
 ghost use Rattle.mapdb_lists.specs.Changes.{IsOneForOne, IsRewritten, MovesBack, MovesOn};
 ghost use Rattle.mapdb_lists.specs.Changes.{left_before};
@@ -201,14 +201,6 @@ fn write_end(
     Ok(())
 }
 
-/// Puts a change in place of one that is taken out.
-fn exchange(list: &mut SmallVec<PageChange, 2>, index: usize, next: PageChange)
-    requires { index < length list.old.items }
-    ensures { list.new.items ≡ insert (remove list.old.items index) index next }
-{
-    set_at(list.as_mut_slice(), index, next);
-}
-
 /// Whether the change at the first of pages goes, since they get what stands in front of them, and
 /// one comes at their end, where none stands.
 #[inline(always)]
@@ -266,34 +258,25 @@ fn move_one(
     if end >= PAGE_LIMIT {
         return false;
     }
-    match found {
-        Ok(index) => {
-            if !moves_on(list.as_slice(), index, before, end, change) {
-                return false;
-            }
-            exchange(
-                list,
-                index,
-                PageChange {
-                    page: end,
-                    change: was,
-                },
-            );
+    let changes = list.as_slice();
+    let (index, next) = match found {
+        Ok(index) if moves_on(changes, index, before, end, change) => {
+            let next = PageChange {
+                page: end,
+                change: was,
+            };
+            (index, next)
         }
-        Err(index) => {
-            if !moves_back(list.as_slice(), index, before, end, change) {
-                return false;
-            }
-            exchange(
-                list,
-                index,
-                PageChange {
-                    page: first,
-                    change,
-                },
-            );
+        Err(index) if moves_back(changes, index, before, end, change) => {
+            let next = PageChange {
+                page: first,
+                change,
+            };
+            (index, next)
         }
-    }
+        _ => return false,
+    };
+    set_at(list.as_mut_slice(), index, next);
     true
 }
 
