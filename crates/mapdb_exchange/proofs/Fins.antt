@@ -1,29 +1,23 @@
 -- Nothing stands after Fin.
 use Rattle.std.proofs.Common.{◌≡◌, Bool, true, false, ◌||◌, true≢false, List, [], ◌∷◌, ◌++◌, refl, sym, ap, ◌∙◌, subst}
+use Rattle.std.proofs.lemmas.Bool.{or_parts}
+use mathlib.Core.Bool.{or-false}
 use Rattle.mapdb_exchange.specs.declared.messages.Message.{Message}
 use Rattle.mapdb_exchange.specs.Links.{is_fin, has_fin, IsFinLast}
 use Rattle.mapdb_exchange.specs.Rules.{pass_view}
 use Rattle.mapdb_exchange.specs.declared.rules.PassView.{PassView}
-
-or_false : (b : Bool) → (b || false) ≡ b
-or_false true = refl
-or_false false = refl
-
-or_both : (a b : Bool) → (a || b) ≡ false → (a ≡ false) × (b ≡ false)
-or_both true b e = absurd (true≢false e)
-or_both false b e = (refl, e)
 
 nothing_more : (xs rest : List Message) → xs ++ rest ≡ [] → xs ++ rest ≡ xs
 nothing_more [] rest e = e
 nothing_more (x ∷ xs) rest e = cc
 
 pub has_fin-push : (ms : List Message) (m : Message) → has_fin ms ≡ false → has_fin (ms ++ m ∷ []) ≡ is_fin m
-has_fin-push [] m e = or_false (is_fin m)
-has_fin-push (x ∷ xs) m e = let p = or_both (is_fin x) (has_fin xs) e in ap (λ b. b || has_fin (xs ++ m ∷ [])) p.0 ∙ has_fin-push xs m p.1
+has_fin-push [] m e = or-false (is_fin m)
+has_fin-push (x ∷ xs) m e = let p = or_parts (is_fin x) (has_fin xs) e in ap (λ b. b || has_fin (xs ++ m ∷ [])) p.0 ∙ has_fin-push xs m p.1
 
 pub IsFinLast-push : (ms : List Message) (m : Message) → has_fin ms ≡ false → IsFinLast ms → IsFinLast (ms ++ m ∷ [])
 IsFinLast-push [] m e h = ((λ _. refl), tt)
-IsFinLast-push (x ∷ xs) m e h = ((λ p. absurd (true≢false (sym (ap (λ b. b || has_fin xs) p) ∙ e))), IsFinLast-push xs m ((or_both (is_fin x) (has_fin xs) e).1) h.1)
+IsFinLast-push (x ∷ xs) m e h = ((λ p. absurd (true≢false (sym (ap (λ b. b || has_fin xs) p) ∙ e))), IsFinLast-push xs m ((or_parts (is_fin x) (has_fin xs) e).1) h.1)
 
 whole_cons : (x : Message) (xs rest : List Message) (b : Bool) → is_fin x ≡ b → (is_fin x ≡ true → xs ++ rest ≡ []) → (b || has_fin xs) ≡ true → (has_fin xs ≡ true → xs ++ rest ≡ xs) → x ∷ (xs ++ rest) ≡ x ∷ xs
 whole_cons x xs rest true is none e more = ap (λ l. x ∷ l) (nothing_more xs rest (none is))

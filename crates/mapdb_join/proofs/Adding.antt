@@ -3,14 +3,14 @@ use Rattle.std.specs.Prelude.{◌≡◌, ◌↔◌, ◌⊎◌, length, Bool, tru
 use Rattle.std.proofs.Common.{sym, ◌∙◌, ap, subst, inl, inr, arith}
 use Rattle.std.specs.declared.cmp.Ordering.{Ordering}
 use Rattle.std.specs.Ordering.{is_eq}
-use Rattle.std.specs.Cmp.{IsTotalOrder, both_ways, eq_by_cmp_equiv, tied_itself}
+use Rattle.std.specs.Cmp.{IsTotalOrder, eq_by_cmp_equiv, tied_itself}
 use Rattle.std.specs.BTreeMap.{is_at}
 use Rattle.std.specs.BTreeSet.{BTreeSet, contains, Updates}
 use Rattle.std.specs.List.{AllByRecursion, list_any}
 use Rattle.std.specs.List.Sorted.{IsStrictlySortedBy}
 use Rattle.std.proofs.lemmas.Bool.{or_cases, or_left, or_right, true≢false}
-use Rattle.mapdb_join.specs.Atoms.{IsUnion, IsBetween, HasNone}
-use Rattle.mapdb_join.specs.Grow.{has_key, IsKeySet}
+use Rattle.mapdb_join.specs.Atoms.{IsBetween, HasNone}
+use Rattle.mapdb_join.specs.Grow.{has_key}
 
 -- the keys of others were added to those of old, but for those of rest
 pub record Added {K : Type 0} (cmp : K → K → Ordering) (old others now : BTreeSet K) (rest : List K)
@@ -62,14 +62,3 @@ pub record ShownKeys {K : Type 0} (cmp : K → K → Ordering) (is_key : K → T
     : Type 0 where
   pub sorted : IsStrictlySortedBy cmp all
   pub left : AllByRecursion is_key rest → AllByRecursion is_key all
-
-module _ {K : Type 0} {cmp : K → K → Ordering} {is_key : K → Type 0} {all : List K} where
-  pub shown_keys_first : IsStrictlySortedBy cmp all → ShownKeys cmp is_key all all
-  shown_keys_first s = record { sorted = s; left = λ h. h }
-
-  pub shown_keys_next : (k : K) (rest : List K) → is_key k → ShownKeys cmp is_key all (k ∷ rest) →
-      ShownKeys cmp is_key all rest
-  shown_keys_next k rest h a = record { sorted = a.sorted; left = λ t. a.left (h, t) }
-
-  pub shown_keys_last : ShownKeys cmp is_key all [] → IsKeySet cmp is_key all
-  shown_keys_last a = record { sorted = a.sorted; all = a.left tt }

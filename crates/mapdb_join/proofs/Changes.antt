@@ -8,7 +8,7 @@ use Rattle.std.specs.BTreeMap.{is_at}
 use Rattle.std.proofs.lemmas.Bool.{or_left}
 use Rattle.mapdb_join.specs.Atoms.{Clashes, IsSame, IsUnion, IsBetween}
 use Rattle.mapdb_join.specs.Entries.{some_has, has_under, holds_key, IsChangedAt, ChangesAlone}
-use Rattle.mapdb_join.specs.Faults.{FaultKeeps, FaultLeaves, TellsMemory}
+use Rattle.mapdb_join.specs.Faults.{FaultLeaves, TellsMemory}
 use Rattle.mapdb_join.specs.declared.merge.MergeFault.{MergeFault}
 use Rattle.mapdb_join.specs.declared.merge.MergeFault.TheVariants.{Clash, Memory}
 
@@ -146,11 +146,3 @@ module _ {S A P : Type 0} (has : S → A → Bool) (excludes : A → A → Type 
       FaultLeaves has excludes is_spot old other new fault → TellsMemory fault
   left_refused old other new (Clash spot) apart h = absurd (apart h.0)
   left_refused old other new (Memory refused) apart h = tt
-
-module _ {S A : Type 0} (has : S → A → Bool) (excludes : A → A → Type 0) where
-  -- where the part does not clash, the fault is a refusal of memory
-  pub kept_refused : (old other new : S) (fault : MergeFault Unit) →
-      (Clashes has excludes old other → ⊥) →
-      FaultKeeps has excludes old other new fault → TellsMemory fault
-  kept_refused old other new (Clash spot) apart h = absurd (apart h.0)
-  kept_refused old other new (Memory refused) apart h = tt

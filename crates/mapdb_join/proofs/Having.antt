@@ -1,10 +1,10 @@
 -- Whether all pages of a region have some bits.
-use Rattle.std.specs.Prelude.{◌≡◌, ℕ, ◌≤◌, ◌<◌, ◌+◌, List, [], ◌∷◌, take, drop, bit_or, refl}
+use Rattle.std.specs.Prelude.{◌≡◌, ℕ, ◌≤◌, ◌<◌, ◌+◌, List, [], ◌∷◌, take, drop, bit_or}
 use Rattle.std.proofs.Common.{sym, ◌∙◌, subst, arith, inl, inr}
 use Rattle.std.specs.List.{All, AllByRecursion}
 use Rattle.std.proofs.lemmas.Bool.{cases_lt}
 use Rattle.std.proofs.lemmas.List.Elements.{All-from_recursion, recursion_from_All}
-use Rattle.mapdb_join.specs.Runs.{Ascends, HasOver, IsOver, bits_after, count_below, last_bits}
+use Rattle.mapdb_join.specs.Runs.{Ascends, HasOver, bits_after, count_below, last_bits}
 use Rattle.mapdb_join.specs.Tidy.{middle}
 use Rattle.mapdb_join.specs.declared.runs.starts.Start.{Start}
 use Rattle.mapdb_join.proofs.Changing.{inside_is}

@@ -24,7 +24,7 @@ pub record Walked {K V A : Type 0} (cmp : K → K → Ordering) (has : V → A �
   pub merged : Merged cmp has old others now rest
   pub keyed : Keyed cmp has old others now rest
 
-absorbs : (a b : Bool) → (b ≡ true → a ≡ true) → (a || b) ≡ a
+pub absorbs : (a b : Bool) → (b ≡ true → a ≡ true) → (a || b) ≡ a
 absorbs true b h = refl
 absorbs false true h = sym (h refl)
 absorbs false false h = refl
@@ -72,11 +72,6 @@ module _ {K V A : Type 0} {cmp : K → K → Ordering} {has : V → A → Bool} 
       whole = λ q x new_key held. absurd (clashing (holds_key cmp old q) new_key held);
     };
   }
-
-  pub keyed_last : {old others now : List (K × V)} → Keyed cmp has old others now [] →
-      IsUnion (holds_key cmp) old others now
-  keyed_last a q =
-      both_ways _ _ (a.part.keys.within q) (λ h. elim (or_cases _ _ h) [ inl p ↦ a.part.keys.kept q p | inr p ↦ elim (a.left q p) [ inl r ↦ r | inr r ↦ absurd (true≢false (sym r)) ] ])
 
   module _ (exact : (a b : K) → is_at (cmp a) b ≡ true → a ≡ b) where
     pub keyed_next : {old others now new : List (K × V)} (e : K × V) (rest : List (K × V)) →

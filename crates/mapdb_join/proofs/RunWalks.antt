@@ -4,8 +4,8 @@ use Rattle.std.proofs.Common.{sym, ◌∙◌, ap, arith, inl, inr, get_or}
 use Rattle.std.specs.List.{AllByRecursion}
 use Rattle.std.proofs.lemmas.Bool.{cases_lt}
 use Rattle.std.specs.Int.Bits.{or_zero_r}
-use Rattle.mapdb_join.specs.declared.runs.bounds.TheConstants.{BITS_LIMIT, RUN_LIMIT}
-use Rattle.mapdb_join.specs.Runs.{Ascends, CoversAll, HasOver, IsBothOf, IsBounded, IsOver, IsPartlyBoth, IsRuns, bits_after, last_bits, start_at}
+use Rattle.mapdb_join.specs.declared.runs.bounds.TheConstants.{RUN_LIMIT}
+use Rattle.mapdb_join.specs.Runs.{Ascends, CoversAll, HasOver, IsBothOf, IsBounded, IsOver, IsRuns, bits_after, last_bits, start_at}
 use Rattle.mapdb_join.specs.declared.runs.starts.Start.{Start}
 use Rattle.mapdb_join.proofs.Counting.{least_page}
 use Rattle.mapdb_join.specs.Lawful.Stepping.{here, there}

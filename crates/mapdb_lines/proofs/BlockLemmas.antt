@@ -3,26 +3,22 @@ use Rattle.std.proofs.Common.{◌≡◌, ℕ, ◌+◌, ◌-◌, ◌≤◌, ◌<�
 use Rattle.std.proofs.lemmas.List.{take-append-drop, take_all, append-nil, drop-append-le, drop-take}
 use Rattle.std.proofs.Math.ListN.{drop_of_length-le, length-take}
 use Rattle.std.proofs.Math.Seq.{take-append-add, take-append_seam}
-use Rattle.std.specs.Prelude.{Option, Some, None, Result, Ok, Err, OnErr, slice_range}
+use Rattle.std.specs.Prelude.{Option, Result, Ok, Err, OnErr, slice_range}
 use Rattle.std.specs.Io.KnownBytes.{Appends}
+use Rattle.std.proofs.KnownBytes.{Appends-nil, Appends-trans}
 use Rattle.mapdb_lines.specs.Blocks.{Passes}
-use Rattle.mapdb_lines.proofs.LineLemmas.{Appends-append}
-
-pub appends-none : (a : Option (List ℕ)) → Appends a a []
-appends-none None = tt
-appends-none (Some p) = sym (append-nil p)
 
 -- one text after another
 pub passes-then : (a b c : Option (List ℕ)) (x y z s t : List ℕ) → Passes a b x y s → Passes b c y z t → Passes a c x z (s ++ t)
 passes-then a b c x y z s t h k = (
   h.0 ++ k.0,
-  Appends-append a b c h.0 k.0 h.1 k.1,
+  Appends-trans a b c h.0 k.0 h.1 k.1,
   sym (append_assoc x s t) ∙ (ap (λ (bs : List ℕ). bs ++ t) h.2 ∙ (append_assoc h.0 y t ∙ (ap (λ (bs : List ℕ). h.0 ++ bs) k.2 ∙ sym (append_assoc h.0 k.0 z)))),
 )
 
 -- nothing happens
 pub passes-none : (a : Option (List ℕ)) (x y : List ℕ) → y ≡ x → Passes a a x y []
-passes-none a x y e = ([], appends-none a, append-nil x ∙ sym e)
+passes-none a x y e = ([], Appends-nil a, append-nil x ∙ sym e)
 
 -- a text, and then nothing
 pub passes-on : (a b c : Option (List ℕ)) (x y z s : List ℕ) → Passes a b x y s → Passes b c y z [] → Passes a c x z s

@@ -1,5 +1,5 @@
 -- What clap found, and what it asks for.
-use Rattle.std.proofs.Common.{rules, inl, inr, ◌⊎◌, [], ◌∷◌, true≢false, ◌≡◌, ◌∙◌, refl, sym, ap, List, Option, Some, None, false, option_map, true, not, ◌&&◌, Bool}
+use Rattle.std.proofs.Common.{rules, inl, inr, ◌⊎◌, [], ◌∷◌, ◌≡◌, ◌∙◌, refl, sym, ap, List, Option, Some, None, false, option_map, true}
 use Rattle.std.specs.Prelude.{unwrap_or}
 use Rattle.std.specs.Option.{option_and_then}
 use Rattle.clap.specs.Words.{AddsArg, AddsSubcommand, App, Shape, with_subcommand, Row, Rule, Text, app_of, rule_of, shape_of, with_rule, HasKind, HasMatchesOf, Kinds, fault_of, is_simple, is_simple_and_free, kind_of, subcommand_of, first_of, first_value, rows_of, subcommand_name_of, subcommand_rows_of}
@@ -23,12 +23,6 @@ shape_with_rule old new a rule added plain is_rule = ap (λ (app : App). app.top
 -- the first value of an argument, from the rows
 pub first_value_rows : (f : Found) (id : Text) → first_value f id ≡ first_of id (rows_of f)
 first_value_rows f id = first_value-rows f id
-
--- a plain command has no argument that holds for its subcommands too
-no_globals : (a b rest : Bool) → a && (not b && rest) ≡ true → b ≡ false
-no_globals true false rest e = refl
-no_globals true true rest e = absurd (true≢false (sym e))
-no_globals false b rest e = absurd (true≢false (sym e))
 
 plain_alone : (c : Command) → (shape_of c).is_plain ≡ true → (out-Command c).has_globals ≡ false
 plain_alone c plain = search rules

@@ -2,11 +2,13 @@
 use Rattle.std.proofs.Common.{◌≡◌, ◌<◌, ◌≤◌, ◌+◌, ℕ, Bool, true, false, arith, length, length-append, List, [], ◌++◌, inl, inr, refl, sym, ap, subst, ◌∙◌, take}
 use Rattle.std.specs.Prelude.{◌⊎◌, Option, Some, None, Result, Ok, Err, IfOk, IfErr, ◌||◌, ◌&&◌, ◌==◌, nat_lt}
 use Rattle.std.specs.Result.{IsErr, IsErrAnd}
-use Rattle.std.specs.Io.KnownBytes.{Consumes, Keeps}
+use Rattle.std.specs.Io.KnownBytes.{Consumes}
 use Rattle.std.proofs.Math.ListN.{length-take}
 use Rattle.std.proofs.Math.Seq.{take-append_seam}
 use Rattle.std.proofs.lemmas.Bool.{false≢true}
 use Rattle.std.proofs.lemmas.Bool.Decides.{nat_tests}
+use mathlib.Core.Bool.{or-false, or-true}
+use Rattle.std.proofs.KnownBytes.{Consumes-kept, Consumes-nil}
 use Rattle.mapdb_lines.specs.Limits.{line_limit, read_ahead}
 use Rattle.mapdb_picture.specs.declared.faults.LoadFault.{LoadFault}
 use Rattle.mapdb_picture.specs.declared.faults.LoadFault.TheVariants.{Memory}
@@ -14,18 +16,6 @@ use Rattle.mapdb_program.specs.Snapshots.{IsAll, IsFront, IsLittle, IsUnread, Te
 use Rattle.mapdb_program.specs.declared.snapshots.Asked.{Asked}
 use Rattle.mapdb_program.specs.declared.snapshots.TellFault.{TellFault}
 use Rattle.mapdb_program.specs.declared.snapshots.TellFault.TheVariants.{Load, Read, TooLong, Write}
-
--- a reader of which nothing was read
-pub consumes_nothing : (a : Option (List ℕ)) → Consumes a a []
-consumes_nothing None = tt
-consumes_nothing (Some p) = refl
-
--- a read that took nothing
-pub consumes_kept : (a b c : Option (List ℕ)) (x : List ℕ) → Consumes a b x → Keeps b c → Consumes a c x
-consumes_kept None b c x h k = tt
-consumes_kept (Some p) None c x h k = absurd h
-consumes_kept (Some p) (Some q) None x h k = absurd k
-consumes_kept (Some p) (Some q) (Some r) x h k = h ∙ ap (λ (bs : List ℕ). x ++ bs) (sym k)
 
 -- a read that took 0 bytes
 pub consumes_zero : (a b c : Option (List ℕ)) (x piece : List ℕ) (n : ℕ) → n ≡ 0 → Consumes a b x → Consumes b c (take n piece) → Consumes a c x
@@ -50,16 +40,13 @@ pub told_memory : {A : Type 0} (P : A → Type 0) (result : Result A TellFault) 
 told_memory P (Ok a) input little h k = absurd (false≢true h)
 told_memory P (Err why) input little h k = (tt, subst (λ (x : TellFault). IsUnread x input) (sym k) (refl, little))
 
-or_false : (b : Bool) → (b || false) ≡ b
-or_false b = elim b as (λ t. (t || false) ≡ t) [ true ↦ refl | false ↦ refl ]
-
 -- a read that did not fail
 pub worked : (before now : Bool) → now ≡ (before || false) → before ≡ false → now ≡ true → ⊥
 worked before now is works failed = false≢true (sym (is ∙ ap (λ (b : Bool). b || false) works) ∙ failed)
 
 -- a read that failed shows no end
 pub shows_no_end : (start before now : Bool) → now ≡ (before || false) → before ≡ start → now ≡ start
-shows_no_end start before now is same = is ∙ or_false before ∙ same
+shows_no_end start before now is same = is ∙ or-false before ∙ same
 
 not_zero : (n : ℕ) → 0 < n → (n == 0) ≡ false
 not_zero n some = grind (arith, nat_tests)
@@ -68,16 +55,13 @@ not_zero n some = grind (arith, nat_tests)
 pub went_on : (start before now : Bool) (count room : ℕ) → now ≡ (before || ((count == 0) && nat_lt 0 room)) → 0 < count → before ≡ start → now ≡ start
 went_on start before now count room is some same = shows_no_end start before now (is ∙ ap (λ (b : Bool). before || (b && nat_lt 0 room)) (not_zero count some)) same
 
-or_true : (b : Bool) → (b || true) ≡ true
-or_true b = grind (arith, nat_tests)
-
 above_none : (m : ℕ) → 0 < m → nat_lt 0 m ≡ true
 above_none m some = grind (arith, nat_tests)
 
 -- a reader that gave nothing of a piece that is not empty has ended
 pub ended_now : (before now : Bool) (count room : ℕ) → now ≡ (before || ((count == 0) && nat_lt 0 room)) → count ≡ 0 → 0 < room → now ≡ true
 ended_now before now count room is zero some =
-    is ∙ ap (λ (n : ℕ). before || ((n == 0) && nat_lt 0 room)) zero ∙ ap (λ (b : Bool). before || b) (above_none room some) ∙ or_true before
+    is ∙ ap (λ (n : ℕ). before || ((n == 0) && nat_lt 0 room)) zero ∙ ap (λ (b : Bool). before || b) (above_none room some) ∙ or-true before
 
 -- the piece that was read into, as it lies in its list
 pub piece_read : (count room : ℕ) (piece rest : List ℕ) → room ≡ length piece → take count (take room (piece ++ rest)) ≡ take count piece

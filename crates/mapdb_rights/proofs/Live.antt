@@ -1,4 +1,3 @@
-pub mod EmptyRights
 pub mod FirstRecords
 pub mod FirstWalks
 pub mod FrameRights

@@ -1,7 +1,6 @@
 -- What messages have stays what it is, and to take what is behind a mark comes to what taking all does.
 use Rattle.std.proofs.Common.{◌≡◌, ℕ, ◌++◌, ◌∷◌, ◌<◌, ◌≤◌, ◌+◌, ◌-◌, All, List, [], ap, arith, drop, get_or, inl, inr, length, refl, slice_get, subst, suc, sym, take, true, zero, ◌∙◌, append-nil}
-use Rattle.std.proofs.Math.ListN.{get_or-append, length-set}
-use Rattle.std.proofs.Math.Seq.{get_or-append_seam, set-append_seam}
+use Rattle.std.proofs.Math.ListN.{length-set}
 use Rattle.std.specs.List.{filter}
 use Rattle.std.specs.Prelude.{Result, Some, count_by, not, slice_set, ◌==◌, Err, Ok, OnOk, is_ok, max, nat_le}
 use Rattle.std.proofs.lemmas.Bool.{and_from, and_parts, cases_Bool, cond-false, eqb-true, leb-false, leb-true, not-true}
@@ -9,7 +8,6 @@ use Rattle.std.proofs.lemmas.List.{drop_all, drop-append-le, length-append, leng
 use Rattle.std.proofs.Math.Seq.{take-length}
 use Rattle.std.proofs.lemmas.List.Elements.{All-head, All-tail, All-weaker, filter-append}
 use Rattle.std.proofs.lemmas.List.Sums.{length-filter}
-use Rattle.std.proofs.lemmas.Option.{slice_get_read}
 use Rattle.mapdb_facts.specs.Adding.{is_new}
 use Rattle.mapdb_facts.specs.State.{IsSound, Rec, state_of}
 use Rattle.mapdb_facts.proofs.States.Joins.{atom_right}
@@ -31,6 +29,7 @@ use Rattle.mapdb_script.specs.Marks.{HoldsFirst, IsMark, mark_of_two}
 use Rattle.mapdb_script.specs.Sendings.{IsSent, after_taking, TakesPart, TakesSent, known_among, ops_sent, messages_of, ops_between, sent_by}
 use Rattle.mapdb_script.specs.declared.sendings.Sending.{Sending}
 use Rattle.mapdb_script.proofs.MarkLemmas.{Grows, first_later, takes_grow, was_there}
+use Rattle.mapdb_replica.proofs.Unmaps.CutCopies.{set_back, get_back, get_front}
 
 -- nothing is left of what is held
 none_left : (held ops : List Op) → knows_all held ops ≡ true → filter (is_new (state_of held)) ops ≡ []
@@ -244,21 +243,6 @@ pub message_is : (copies : List Log) (sending : Sending) (log : Log) → slice_g
 message_is copies sending log there = ap (λ o. sent_by o sending) there
 
 -- ---- one copy of several
-
--- an element in front of a cut, and the first one behind it
-get_front : (front back : List Log) (at : ℕ) (copy : Log) → at < length front → copy ≡ get_or front at copy → slice_get (front ++ back) at ≡ Some copy
-get_front front back at copy within is =
-    slice_get_read (front ++ back) (length (front ++ back)) at copy refl (omega (arith, length-append front back)) (is ∙ sym (get_or-append front back copy at within))
-
-get_back : (front back : List Log) (at : ℕ) (copy : Log) → at ≡ length front → 0 < length back → copy ≡ get_or back 0 copy → slice_get (front ++ back) at ≡ Some copy
-get_back front [] at copy e some is = absurd (omega arith)
-get_back front (first ∷ back) at copy e some is =
-    slice_get_read (front ++ first ∷ back) (length (front ++ first ∷ back)) at copy refl (omega (arith, length-append front (first ∷ back)))
-    (is ∙ (sym (get_or-append_seam front first back copy) ∙ ap (λ (i : ℕ). get_or (front ++ first ∷ back) i copy) (sym e)))
-
-set_back : (front back : List Log) (at : ℕ) (copy : Log) → at ≡ length front → 0 < length back → front ++ slice_set back 0 copy ≡ slice_set (front ++ back) at copy
-set_back front [] at copy e some = absurd (omega arith)
-set_back front (first ∷ back) at copy e some = rw e (sym (set-append_seam front first back copy))
 
 -- one copy took a part of its own list
 pub behind_own : (copies : List Log) (into : ℕ) (sending : Sending) (copy after : Log) (taken : Result ℕ TakeFault) → sending.sender ≡ into → slice_get copies into ≡ Some copy

@@ -2,7 +2,7 @@
 use Rattle.std.proofs.Common.{arith, ◌&&◌, ◌≡◌, ◌≢◌, ◌∙◌, ℕ, zero, suc, Bool, true, false, cond, ◌||◌, Some, None, refl, sym, subst, List, [], ◌∷◌, length, inl}
 use Rattle.std.specs.Prelude.{◌↔◌, ◌==◌, nat_lt, Option, Result, Ok, Err, IfSome, IsTrue, slice_get, slice_set, if◌then◌else◌, map}
 use Rattle.std.specs.List.{range_with_len}
-use Rattle.std.proofs.lemmas.Bool.{cond-false, true≢false}
+use Rattle.std.proofs.lemmas.Bool.{and_right, cond-false, true≢false}
 use Rattle.std.proofs.lemmas.Bool.Decides.{nat_tests}
 use Rattle.mapdb_fpage.specs.Place.{Place}
 use Rattle.mapdb_fpage.specs.Transfer.{transfer_of}
@@ -66,12 +66,8 @@ same_if false false P on p = refl
 not_first : (at : ℕ) → at ≢ 0 → (at == 0) ≡ false
 not_first at other = grind (arith, nat_tests)
 
-and_false : (b test : Bool) → test ≡ false → (b && test) ≡ false
-and_false true test e = e
-and_false false test e = refl
-
 next_other : (accepted : Accepted) (at : ℕ) (command : Command) → at ≢ 0 → with_next accepted at command ≡ accepted
-next_other accepted at command other = cond-false (accepted.is_alone && (at == 0)) _ _ (and_false accepted.is_alone (at == 0) (not_first at other))
+next_other accepted at command other = cond-false (accepted.is_alone && (at == 0)) _ _ (and_right accepted.is_alone (at == 0) (not_first at other))
 
 heard_other : (accepted : Accepted) (at : ℕ) → at ≢ 0 → heard accepted at true ≡ accepted
 heard_other accepted at other = rw (not_first at other) refl

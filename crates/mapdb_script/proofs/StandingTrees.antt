@@ -26,12 +26,13 @@ use Rattle.mapdb_cluster.proofs.Steps.Slots.{set_here}
 use Rattle.mapdb_sequential.specs.Plain.{After, AreCommands, GoesOnWith, IsPlain, tree_refusal_of}
 use Rattle.mapdb_sequential.specs.Sequential.{HasNode, destination_refusal, for_spaces_or}
 use Rattle.mapdb_sequential.proofs.Lists.PlainLists.{commands_leave_trees, refusals_agree, sequential_tree}
-use Rattle.mapdb_sequential.proofs.Lists.Stepping.{least_none, not_occupied}
+use Rattle.mapdb_sequential.proofs.Lists.Stepping.{not_occupied}
 use Rattle.mapdb_script.specs.Accepting.{Accepted, with_next}
 use Rattle.mapdb_script.specs.NarrowTrees.{is_narrow, narrow_tree}
 use Rattle.mapdb_script.specs.TreeAnswers.{page_answer, tree_answer}
 use Rattle.mapdb_script.specs.Standing.{CopiesStandFor, IsFreeTarget, MapGoesOn, ShowsTree, sent_page, shares}
 use Rattle.mapdb_script.proofs.NarrowTrees.{IsShut, narrow_behind, no_narrow_behind, shut_behind}
+use Rattle.mapdb_tree.proofs.Least.{least-none}
 
 -- One command more.
 
@@ -139,7 +140,7 @@ module _ (log : Log) (T : Tree) (has : (page : Page) → HasNode log T page) (se
   unfolding into
   free_pages none number inside shared =
       let range = holds_range t.target number inside in
-      let test = least_none t.target.first_page (page_total t.target) (is_occupied T sender t receiver) none number range.0 range.1 in
+      let test = least-none t.target.first_page (page_total t.target) (is_occupied T sender t receiver) none number range.0 range.1 in
       (has (into number)).served_with
       ∙ ap answer_of (both_new (brought T sender t number) (T.node_at (into number)) (brought_some number inside ∙ shared) test)
 

@@ -1,5 +1,5 @@
 -- The spaces that there are.
-use Rattle.std.proofs.Common.{◌≡◌, ◌+◌, Bool, true, false, refl, sym, subst, List, [], ◌∷◌, ◌++◌, inl, inr}
+use Rattle.std.proofs.Common.{◌≡◌, Bool, true, false, refl, sym, subst, List, [], ◌∷◌, ◌++◌, inl, inr}
 use Rattle.std.specs.Prelude.{◌⊎◌, filter, map, if◌then◌else◌}
 use Rattle.mapdb_fpage.specs.Place.{whole}
 use Rattle.mapdb_facts.specs.Exact.{exact_space}
@@ -18,7 +18,7 @@ pub ascending_among : (records : List Record) → IsAscending numbered (spaces_a
 ascending_among [] = (tt, tt)
 ascending_among (r ∷ rest) = ascending_space r.space (spaces_among rest) (ascending_among rest)
 
-first_among : (records : List Record) → IsAmong first_space (spaces_among records)
+pub first_among : (records : List Record) → IsAmong first_space (spaces_among records)
 first_among [] = inl refl
 first_among (r ∷ rest) = still_among r.space first_space (spaces_among rest) (first_among rest)
 

@@ -17,7 +17,7 @@ use Rattle.mapdb_facts.proofs.Maps.Spaces.{among_placed, ascending_space, placed
 use Rattle.mapdb_replica.specs.Pairs.{Pair, page_rights}
 use Rattle.mapdb_replica.specs.Served.{served, served_among}
 use Rattle.mapdb_table.specs.Table.{rows_behind, rows_of_spaces, space_rows, spaces_among, spaces_of, table, with_space_of}
-use Rattle.mapdb_table.proofs.ListedSpaces.{ascending_among, none_or_space}
+use Rattle.mapdb_table.proofs.ListedSpaces.{ascending_among, none_or_space, first_among}
 use Rattle.mapdb_table.proofs.RowLists.{behind-all, behind-skip}
 
 -- The walk over the operations.
@@ -34,10 +34,6 @@ pub record Gathered (ops rest : List Op) (spaces : List Space) : Type 0 where
   pub rising : IsAscending numbered spaces
   pub to : (space : Space) → IsAmong space spaces → IsAmong space (spaces_of ops)
   pub from : (space : Space) → IsAmong space (spaces_of ops) → IsAmong space spaces ⊎ IsAmong space (born_spaces rest)
-
-first_there : (records : List Record) → IsAmong first_space (spaces_among records)
-first_there [] = inl refl
-first_there (r ∷ rest) = still_among r.space first_space (spaces_among rest) (first_there rest)
 
 -- the space of a record is one that there is
 space_of : (r : Record) (records : List Record) → IsAmong r records → IsAmong r.space (spaces_among records)
@@ -79,7 +75,7 @@ gathered-first ops none spaces empty is =
     subst (λ (xs : List Space). Gathered ops ops xs) (sym one) (record {
       rising = (tt, tt);
       to = λ space among. elim among [
-        | inl e ↦ subst (λ (s : Space). IsAmong s (spaces_of ops)) e (first_there (records_of ops))
+        | inl e ↦ subst (λ (s : Space). IsAmong s (spaces_of ops)) e (first_among (records_of ops))
         | inr none ↦ absurd none
       ];
       from = λ space among. elim (all_born ops space among) [

@@ -11,6 +11,7 @@ use Rattle.mapdb_cluster.specs.Net.{Done, Net, with_copy}
 use Rattle.mapdb_cluster.specs.Run.{took_by}
 use Rattle.mapdb_cluster.specs.declared.events.Reply.{Reply}
 use Rattle.mapdb_cluster.proofs.Steps.Slots.{one_there, set_here, set_nowhere, set_other}
+use Rattle.mapdb_replica.proofs.News.NewsAtoms.{same_itself}
 
 -- a copy after an event holds what it held and what it took
 pub record HoldsDone (done : Done) (at : ℕ) (before : Log) : Type 0 where
@@ -24,9 +25,6 @@ pub record AllHold (net : Net) (done : Done) : Type 0 where
   pub hold : (at : ℕ) (before : Log) → slice_get net.copies at ≡ Some before → HoldsDone done at before
   pub absent : (at : ℕ) → slice_get net.copies at ≡ None → slice_get done.net.copies at ≡ None
   pub sound : AreSound done.net
-
-pub same_itself : (xs : List Op) → SameAtoms xs xs
-same_itself xs atom = (λ has. has, λ has. has)
 
 pub same_trans : (xs ys zs : List Op) → SameAtoms xs ys → SameAtoms ys zs → SameAtoms xs zs
 same_trans xs ys zs a b atom = (λ has. (b atom).0 ((a atom).0 has), λ has. (a atom).1 ((b atom).1 has))

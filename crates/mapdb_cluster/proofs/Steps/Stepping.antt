@@ -15,7 +15,7 @@ use Rattle.mapdb_replica.specs.declared.faults.GiveFault.{GiveFault}
 use Rattle.mapdb_replica.specs.declared.faults.IssueFault.{IssueFault}
 use Rattle.mapdb_replica.specs.declared.faults.TakeFault.{TakeFault}
 use Rattle.mapdb_replica.specs.declared.faults.TakeFault.TheVariants as take_fault
-use Rattle.mapdb_replica.proofs.News.NewsAtoms.{news_give}
+use Rattle.mapdb_replica.proofs.News.NewsAtoms.{news_give, same_itself}
 use Rattle.mapdb_replica.proofs.Calls.SoundIssues.{issues_are_sound}
 use Rattle.mapdb_replica.proofs.News.SoundTakes.{taken_parts, takes_are_sound}
 use Rattle.mapdb_cluster.specs.Laws.{AreSound}
@@ -26,7 +26,7 @@ use Rattle.mapdb_cluster.specs.declared.events.Event.TheVariants.{Deliver, Issue
 use Rattle.mapdb_cluster.specs.declared.events.Refusal.{Refusal}
 use Rattle.mapdb_cluster.specs.declared.events.Refusal.TheVariants as refusal
 use Rattle.mapdb_cluster.specs.declared.events.Reply.TheVariants.{Refused, Taken}
-use Rattle.mapdb_cluster.proofs.Steps.Holding.{AllHold, changed_hold, repeated_hold, same_itself, sound_alike, unchanged_hold}
+use Rattle.mapdb_cluster.proofs.Steps.Holding.{AllHold, changed_hold, repeated_hold, sound_alike, unchanged_hold}
 
 -- what the first operations give, all give
 part_gives : (xs : List Op) (n : ℕ) (atom : Atom) → HasAtom (take n xs) atom → HasAtom xs atom

@@ -1,7 +1,7 @@
 -- Lists with the same atoms make the same state.
 use Rattle.std.proofs.Common.{◌≡◌, ℕ, true, Some, refl, sym, ap, subst, ◌∙◌, List, [], ◌∷◌, inl, inr}
 use Rattle.std.specs.Prelude.{◌⊎◌, Option, None}
-use Rattle.std.proofs.lemmas.Bool.{or_cases, cases_Bool, cond-true, cond-false, false≢true}
+use Rattle.std.proofs.lemmas.Bool.{or_cases, cases_Bool, cond-true, cond-false, false≢true, or_right, or_left}
 use Rattle.mapdb_facts.specs.declared.operations.Op.{Op}
 use Rattle.mapdb_facts.specs.declared.operations.Op.TheVariants.{Born, Cut, Closed}
 use Rattle.mapdb_facts.specs.declared.names.RecordId.{RecordId}
@@ -11,7 +11,7 @@ use Rattle.mapdb_facts.specs.declared.names.Space.{Space}
 use Rattle.mapdb_facts.specs.Names.{same_id, same_space}
 use Rattle.mapdb_facts.specs.State.{Atom, Rec, Rev, End, State, said, first_of, state_of, cuts, Has, Gives, HasAtom, SameAtoms, IsSound, Covers}
 use Rattle.mapdb_facts.proofs.Lists.SameNames.{same_id_true, same_id_at, same_space_true, same_space_itself, some_same, none_some}
-use Rattle.mapdb_fpage.proofs.Booleans.{or_left_true, or_right_true, same_test}
+use Rattle.mapdb_fpage.proofs.Booleans.{same_test}
 
 -- two states with the same look-ups are one
 pub same_state : (S T : State) → ((id : RecordId) → S.record_at id ≡ T.record_at id) → ((id : RecordId) (page : ℕ) (right : Right) → S.is_cut id page right ≡ T.is_cut id page right) → ((space : Space) → S.is_ended space ≡ T.is_ended space) → S ≡ T
@@ -85,7 +85,7 @@ first_of_found : (a b : Option Record) (r : Record) → ((s : Record) → a ≡ 
 first_of_found (Some s) b r same h = ap Some (same s refl)
 first_of_found None b r same h = h
 
-first_of_here : (a b : Option Record) (r : Record) → a ≡ Some r → first_of a b ≡ Some r
+pub first_of_here : (a b : Option Record) (r : Record) → a ≡ Some r → first_of a b ≡ Some r
 first_of_here (Some s) b r h = h
 first_of_here None b r h = absurd (none_some r h)
 
@@ -97,10 +97,10 @@ atom_kept (op ∷ ops) (Rec r) sound (inr later) =
     first_of_found ((said op).record_at r.id) ((state_of ops).record_at r.id) r
     (λ s e. let found = said_record op r.id s e in sound s r (inl found.0) (inr later) found.1)
     (atom_kept ops (Rec r) (sound_tail op ops sound) later)
-atom_kept (op ∷ ops) (Rev id page right) sound (inl here) = or_left_true ((said op).is_cut id page right) ((state_of ops).is_cut id page right) (said_from op (Rev id page right) here)
-atom_kept (op ∷ ops) (Rev id page right) sound (inr later) = or_right_true ((said op).is_cut id page right) ((state_of ops).is_cut id page right) (atom_kept ops (Rev id page right) (sound_tail op ops sound) later)
-atom_kept (op ∷ ops) (End space) sound (inl here) = or_left_true ((said op).is_ended space) ((state_of ops).is_ended space) (said_from op (End space) here)
-atom_kept (op ∷ ops) (End space) sound (inr later) = or_right_true ((said op).is_ended space) ((state_of ops).is_ended space) (atom_kept ops (End space) (sound_tail op ops sound) later)
+atom_kept (op ∷ ops) (Rev id page right) sound (inl here) = or_left ((said op).is_cut id page right) ((state_of ops).is_cut id page right) (said_from op (Rev id page right) here)
+atom_kept (op ∷ ops) (Rev id page right) sound (inr later) = or_right ((said op).is_cut id page right) ((state_of ops).is_cut id page right) (atom_kept ops (Rev id page right) (sound_tail op ops sound) later)
+atom_kept (op ∷ ops) (End space) sound (inl here) = or_left ((said op).is_ended space) ((state_of ops).is_ended space) (said_from op (End space) here)
+atom_kept (op ∷ ops) (End space) sound (inr later) = or_right ((said op).is_ended space) ((state_of ops).is_ended space) (atom_kept ops (End space) (sound_tail op ops sound) later)
 
 pub same_find : (a b : Option Record) → ((r : Record) → a ≡ Some r → b ≡ Some r) → ((r : Record) → b ≡ Some r → a ≡ Some r) → a ≡ b
 same_find (Some r) b to from = sym (to r refl)

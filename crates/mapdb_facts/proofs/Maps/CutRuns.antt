@@ -10,7 +10,7 @@ use Rattle.mapdb_fpage.specs.declared.right_sets.Right.{Right}
 use Rattle.mapdb_fpage.specs.declared.right_sets.Right.TheVariants.{Execute, Read, Write}
 use Rattle.mapdb_fpage.specs.declared.right_sets.Rights.{Rights}
 use Rattle.mapdb_join.specs.Bits.{has_bit}
-use Rattle.mapdb_join.specs.Runs.{HasNothingFrom, IsLeastRun, bits_after, has_at}
+use Rattle.mapdb_join.specs.Runs.{IsLeastRun, bits_after, has_at}
 use Rattle.mapdb_join.specs.declared.runs.starts.Start.{Start}
 use Rattle.mapdb_facts.specs.Adding.{cut_at, same_rights}
 use Rattle.mapdb_facts.specs.Exact.{exact_rights}
@@ -64,9 +64,6 @@ module _ (starts : List Start) (atoms : (q bit : ℕ) → has_at starts (q, bit)
   rights_are : (q : ℕ) → rights_by (Some starts) q ≡ rights_of_byte (bits_after 0 starts q)
   rights_are q = same_where (λ right. has_at starts (q, bit_of right)) (λ right. has_bit (bits_after 0 starts q) (bit_of right)) (λ right. atoms q (bit_of right))
 
-  pub nothing_rights : (page : ℕ) → HasNothingFrom page starts → IsRunFrom (rights_by (Some starts)) page None
-  nothing_rights page none q from = ap is_empty (rights_are q ∙ ap rights_of_byte (none q from))
-
   pub least_rights : (page first count bits : ℕ) → IsLeastRun starts page first count bits
       → IsLeastCutRun (rights_by (Some starts)) page (record { first_page = first; page_count = count; rights = rights_of_byte bits })
   least_rights page first count bits is =
@@ -109,7 +106,7 @@ comes_first S id page (Some run) is begins =
 
 -- How far the same rights are revoked.
 
-empty_none : (rights : Rights) → is_empty rights ≡ true → rights ≡ no_rights
+pub empty_none : (rights : Rights) → is_empty rights ≡ true → rights ≡ no_rights
 empty_none rights h = by rights.read rights.write rights.execute h
   where
     by : (r w x : Bool) → (let rights : Rights = record { read = r; write = w; execute = x } in is_empty rights) ≡ true
@@ -119,32 +116,8 @@ empty_none rights h = by rights.read rights.write rights.execute h
     by false true x h = absurd (true≢false (sym h))
     by false false true h = absurd (true≢false (sym h))
 
-both_empty : (a b : Rights) → is_empty a ≡ true → is_empty b ≡ true → a ≡ b
+pub both_empty : (a b : Rights) → is_empty a ≡ true → is_empty b ≡ true → a ≡ b
 both_empty a b h k = empty_none a h ∙ sym (empty_none b k)
-
-some_empty : (a b : Rights) → is_empty a ≡ false → is_empty b ≡ true → same_rights a b ≡ false
-some_empty a b h k = elim (cases_Bool (same_rights a b)) [
-  | inl same ↦ absurd (true≢false (sym k ∙ sym (ap is_empty (exact_rights a b same)) ∙ h))
-  | inr apart ↦ apart
-]
-
-module _ (f : ℕ → Rights) (page : ℕ) where
-  pub none_same : IsRunFrom f page None → (q : ℕ) → page ≤ q → f q ≡ f page
-  none_same none q from = both_empty (f q) (f page) (none q from) (none page (omega arith))
-
-  pub front_same : (run : CutRun) → IsLeastCutRun f page run → page < run.first_page → (q : ℕ) → page ≤ q → q < run.first_page → f q ≡ f page
-  front_same run is low q from to = both_empty (f q) (f page) (is.nothing_between q from to) (is.nothing_between page (omega arith) low)
-
-  pub front_other : (run : CutRun) → IsLeastCutRun f page run → page < run.first_page → same_rights (f run.first_page) (f page) ≡ false
-  front_other run is low =
-      let pages : 0 < run.page_count = is.pages in
-      some_empty (f run.first_page) (f page) (ap is_empty (is.equal run.first_page (omega arith) (omega (arith, pages))) ∙ is.some) (is.nothing_between page (omega arith) low)
-
-  pub inside_same : (run : CutRun) → IsLeastCutRun f page run → run.first_page ≤ page → (q : ℕ) → page ≤ q → q < run.first_page + run.page_count → f q ≡ f page
-  inside_same run is low q from to = is.equal q (omega (arith, low, from)) to ∙ sym (is.equal page low is.reaches)
-
-  pub inside_other : (run : CutRun) → IsLeastCutRun f page run → run.first_page ≤ page → same_rights (f (run.first_page + run.page_count)) (f page) ≡ false
-  inside_other run is low = subst (λ (r : Rights). same_rights (f (run.first_page + run.page_count)) r ≡ false) (sym (is.equal page low is.reaches)) is.ends
 
 -- no run goes on from the page before
 abbrev pub EndsBefore : (ℕ → Rights) → ℕ → Type 0

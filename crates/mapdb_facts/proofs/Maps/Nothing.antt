@@ -1,7 +1,7 @@
 -- Maps without atoms say nothing.
-use Rattle.std.specs.Prelude.{◌≡◌, ◌↔◌, Bool, true, false, Option, Some, None, IsTrue, refl}
+use Rattle.std.specs.Prelude.{◌≡◌, ◌↔◌, Bool, true, Option, Some, None, IsTrue, refl}
 use Rattle.std.proofs.Common.{sym, ◌∙◌, ap, subst}
-use Rattle.std.proofs.lemmas.Bool.{true≢false}
+use Rattle.std.proofs.lemmas.Bool.{false_from_ne_true, true≢false}
 use Rattle.mapdb_join.specs.Atoms.{HasNone}
 use Rattle.mapdb_join.specs.Grow.{has_key}
 use Rattle.mapdb_facts.specs.declared.operations.Record.{Record}
@@ -12,10 +12,6 @@ use Rattle.mapdb_facts.proofs.Maps.Atoms.{same_state}
 use Rattle.mapdb_facts.proofs.Maps.KeptFacts.{OfRights}
 use Rattle.mapdb_facts.proofs.RecordLemmas.RecordAtoms.{atom_of_record, record_of_atom}
 use Rattle.mapdb_facts.proofs.Lists.SameNames.{none_some}
-
-not_true : (b : Bool) → (b ≡ true → ⊥) → b ≡ false
-not_true true h = absurd (h refl)
-not_true false h = refl
 
 not_some : (o : Option Record) → ((r : Record) → o ≡ Some r → ⊥) → o ≡ None
 not_some None h = refl
@@ -31,12 +27,12 @@ module _ (kept : Kept) where
 
   pub no_records : state_of_facts kept ≡ nothing → HasNone has_record kept.records
   no_records same x =
-      not_true (has_record kept.records x)
+      false_from_ne_true (has_record kept.records x)
       (λ h. none_some x.1 (sym (ap (λ (S : State). S.record_at x.0) same) ∙ record_of_atom kept.records x.0 x.1 h))
 
   pub no_cuts : OfRights kept.cuts → state_of_facts kept ≡ nothing → HasNone has_cut kept.cuts
   no_cuts rights same x =
-      not_true (has_cut kept.cuts x)
+      false_from_ne_true (has_cut kept.cuts x)
       (λ h. let right = rights x.0 x.1.0 x.1.1 h in
       true≢false (sym (subst (λ bit. has_cut kept.cuts (x.0, (x.1.0, bit)) ≡ true) (sym right.1) h) ∙ ap (λ (S : State). S.is_cut x.0 x.1.0 right.0) same))
 

@@ -76,7 +76,7 @@ placed_nowhere {V} (name ∷ names) (value ∷ values) id even e = elim (cases_B
 
 -- ---- a name more
 
-turned : (a b : RecordId) → same_id a b ≡ same_id b a
+pub turned : (a b : RecordId) → same_id a b ≡ same_id b a
 turned a b = elim (cases_Bool (same_id a b)) [
   | inl same ↦ same ∙ sym (same_id_at b a (sym (same_id_true a b same)))
   | inr other ↦ other ∙ sym (false_from_ne_true (same_id b a) (λ same. false≢true (sym other ∙ same_id_at a b (sym (same_id_true b a same)))))

@@ -1,5 +1,5 @@
 -- Names in their order, number by number.
-use Rattle.std.specs.Prelude.{◌≡◌, ◌≢◌, ◌⊎◌, ◌==◌, ◌<◌, ◌≤◌, ◌+◌, ℕ, zero, suc, false, List, [], ◌∷◌, length, nat_lt, slice_get, slice_index, Option, None, Some, IfSome, IsSome, MatchOption, refl}
+use Rattle.std.specs.Prelude.{◌≡◌, ◌≢◌, ◌⊎◌, ◌==◌, ◌<◌, ◌≤◌, ◌+◌, ℕ, false, List, nat_lt, slice_get, slice_index, Option, None, Some, IfSome, IsSome, MatchOption, refl}
 use Rattle.std.proofs.Common.{sym, ◌∙◌, ap, arith, subst, inl, inr}
 use Rattle.std.specs.Global.{Vec}
 use Rattle.std.specs.Option.{is_some}
@@ -10,7 +10,7 @@ use Rattle.std.specs.BTreeMap.{is_at}
 use Rattle.std.specs.BTreeMap.Range.{IsLeBy}
 use Rattle.std.specs.Map.{lookup}
 use Rattle.std.specs.Cmp.{nat_cmp_is}
-use Rattle.std.proofs.lemmas.Bool.{cases_Bool, eqb-false, eqb-true, ltb-false, ltb-true, true≢false}
+use Rattle.std.proofs.lemmas.Bool.{cases_Bool, eqb-false, ltb-false, ltb-true, true≢false}
 use Rattle.std.proofs.lemmas.Cmp.{ranked}
 use Rattle.mapdb_join.specs.Keys.{IsAbove}
 use Rattle.mapdb_facts.specs.declared.names.RecordId.{RecordId}
@@ -24,7 +24,7 @@ use Rattle.mapdb_facts.proofs.Lists.Comparing.{at_most_from, below_from, from_be
 greater_less : Greater ≡ Less → ⊥
 greater_less e = cc
 
-not_greater : (a b : ℕ) → a ≤ b → is_gt (nat_cmp a b) ≡ false
+pub not_greater : (a b : ℕ) → a ≤ b → is_gt (nat_cmp a b) ≡ false
 not_greater a b low = by (nat_cmp a b) refl
   where
     by : (r : Ordering) → r ≡ nat_cmp a b → is_gt r ≡ false
@@ -113,16 +113,6 @@ le_through a b c one other = le_from a c (elim (from_le a b one) [
 
 -- ---- near names
 
-past_words : (words : List ℕ) (n : ℕ) → length words ≤ n → slice_index words n ≡ 0
-past_words [] n past = refl
-past_words (word ∷ words) zero past = absurd (omega (arith, past))
-past_words (word ∷ words) (suc n) past = past_words words n (omega (arith, past))
-
-pub past_lists : (near : List (Vec ℕ)) (n p : ℕ) → length near ≤ p → near_word near (record { number = n; processor = p }) ≡ 0
-past_lists [] n p past = refl
-past_lists (words ∷ near) n zero past = absurd (omega (arith, past))
-past_lists (words ∷ near) n (suc p) past = past_lists near n p (omega (arith, past))
-
 -- the near names from one spot on are those from another spot on
 pub record IsWalked (near : List (Vec ℕ)) (number first at processor : ℕ) : Type 0 where
   pub kept : (q : RecordId) → near_word near q ≢ 0 → IsFrom number first q → IsFrom at processor q
@@ -148,26 +138,6 @@ module _ (near : List (Vec ℕ)) (number first at processor : ℕ) (walked : IsW
         | inr same ↦ inl (omega (arith, same.0))
       ]);
     }
-
-  -- below the end there is none
-  pub walked_all : (end : ℕ) → end ≤ at → (q : RecordId) → IsFrom number first q → q.number < end → near_word near q ≡ 0
-  walked_all end past q from below = elim (cases_Bool (near_word near q == 0)) [
-    | inl is ↦ eqb-true (near_word near q) 0 is
-    | inr not ↦ elim (walked.kept q (eqb-false (near_word near q) 0 not) from) [
-      | inl more ↦ absurd (omega (arith, more, below, past))
-      | inr same ↦ absurd (omega (arith, same.0, below, past))
-    ]
-  ]
-
-  pub walked_least : (id : RecordId) → id.number ≡ at → ((p : ℕ) → processor ≤ p → p < id.processor → near_word near (record { number = at; processor = p }) ≡ 0)
-      → (q : RecordId) → IsFrom number first q → near_word near q ≢ 0 → IsLeBy id_cmp id q
-  walked_least id here least q from some = le_from id q (elim (walked.kept q some from) [
-    | inl more ↦ inl (omega (arith, here, more))
-    | inr same ↦ elim (cases_Bool (nat_lt q.processor id.processor)) [
-      | inl below ↦ absurd (some (word_of q same.0 (least q.processor same.1 (ltb-true q.processor id.processor below))))
-      | inr not ↦ inr (here ∙ same.0, ltb-false q.processor id.processor not)
-    ]
-  ])
 
 -- ---- the lesser of a near name and a far one
 

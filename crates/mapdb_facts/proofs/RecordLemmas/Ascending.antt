@@ -155,7 +155,7 @@ all_behind : (id : RecordId) (xs : List Record) → AllAfter by_id id xs → beh
 all_behind id [] h = refl
 all_behind id (x ∷ xs) h = cond-true (is_before id x.id) (x ∷ behind (Some id) xs) (behind (Some id) xs) h.0 ∙ ap (λ (ys : List Record). x ∷ ys) (all_behind id xs h.1)
 
-after_later : (after : Option RecordId) (a b : RecordId) → is_after after a ≡ true → is_before a b ≡ true → is_after after b ≡ true
+pub after_later : (after : Option RecordId) (a b : RecordId) → is_after after a ≡ true → is_before a b ≡ true → is_after after b ≡ true
 after_later None a b h k = refl
 after_later (Some id) a b h k = before_trans id a b h k
 

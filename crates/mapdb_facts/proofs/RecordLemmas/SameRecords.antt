@@ -10,7 +10,7 @@ use Rattle.mapdb_facts.specs.Exact.{exact_record}
 use Rattle.mapdb_facts.specs.Names.{same_id, same_space}
 use Rattle.mapdb_facts.proofs.Lists.SameNames.{same_id_itself, same_space_itself}
 
-beq_itself : (a : Bool) → beq a a ≡ true
+pub beq_itself : (a : Bool) → beq a a ≡ true
 beq_itself true = refl
 beq_itself false = refl
 

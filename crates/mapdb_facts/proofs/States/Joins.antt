@@ -1,10 +1,12 @@
 -- The join of states is that of lists.
 use Rattle.std.proofs.Common.{◌≡◌, Bool, true, false, Some, refl, sym, ap, ◌∙◌, List, [], ◌∷◌, ◌++◌, inl, inr, ⊎_elim}
 use Rattle.std.specs.Prelude.{◌||◌, ◌⊎◌, Option, None}
+use mathlib.Core.Bool.{or-false, or_self}
 use Rattle.mapdb_facts.specs.declared.operations.Op.{Op}
 use Rattle.mapdb_facts.specs.declared.operations.Record.{Record}
 use Rattle.mapdb_facts.specs.State.{Atom, Rec, State, nothing, said, first_of, join, state_of, HasAtom, SameAtoms, IsSound, ListsDoNotClash, Covers}
 use Rattle.mapdb_facts.proofs.Maps.Atoms.{same_state}
+use Rattle.mapdb_facts.proofs.States.Newness.{first_of_none}
 
 first_of_assoc : (a b c : Option Record) → first_of (first_of a b) c ≡ first_of a (first_of b c)
 first_of_assoc (Some r) b c = refl
@@ -17,10 +19,6 @@ first_of_self None = refl
 or_assoc : (a b c : Bool) → ((a || b) || c) ≡ (a || (b || c))
 or_assoc true b c = refl
 or_assoc false b c = refl
-
-or_self : (a : Bool) → (a || a) ≡ a
-or_self true = refl
-or_self false = refl
 
 pub join_assoc : (S T U : State) → join (join S T) U ≡ join S (join T U)
 join_assoc S T U =
@@ -89,15 +87,7 @@ clash_is_exact xs ys sound_xs sound_ys = (
 
 pub join_nothing : (S : State) → join S nothing ≡ S
 join_nothing S =
-    same_state (join S nothing) S (λ id. first_of_none (S.record_at id)) (λ id page right. or_none (S.is_cut id page right)) (λ space. or_none (S.is_ended space))
-  where
-    first_of_none : (o : Option Record) → first_of o None ≡ o
-    first_of_none (Some r) = refl
-    first_of_none None = refl
-
-    or_none : (b : Bool) → (b || false) ≡ b
-    or_none true = refl
-    or_none false = refl
+    same_state (join S nothing) S (λ id. first_of_none (S.record_at id)) (λ id page right. or-false (S.is_cut id page right)) (λ space. or-false (S.is_ended space))
 
 -- one operation more at the end of a list
 pub state_of-put : (ops : List Op) (op : Op) → state_of (ops ++ op ∷ []) ≡ join (state_of ops) (said op)

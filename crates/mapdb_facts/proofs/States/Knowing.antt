@@ -6,7 +6,7 @@ use Rattle.mapdb_fpage.specs.Place.{page_total, holds}
 use Rattle.std.proofs.lemmas.Nat.{pow_pos}
 use Rattle.std.specs.Map.{lookup}
 use Rattle.std.specs.BTreeMap.{is_at}
-use Rattle.std.proofs.lemmas.Bool.{and_parts, and_from, eq-eqb, true≢false}
+use Rattle.std.proofs.lemmas.Bool.{and_parts, and_from, true≢false}
 use Rattle.mapdb_facts.specs.declared.operations.Op.TheVariants.{Cut}
 use Rattle.mapdb_facts.specs.declared.names.RecordId.{RecordId}
 use Rattle.mapdb_facts.specs.declared.operations.Revocation.{Revocation}
@@ -27,9 +27,7 @@ use Rattle.mapdb_facts.specs.Facts.{state_of_facts}
 use Rattle.mapdb_facts.specs.Adding.{is_new}
 use Rattle.mapdb_facts.specs.Taking.{Knows}
 use Rattle.mapdb_facts.proofs.States.Newness.{cut_old, new_is_exact}
-
-pub id_itself : (a : RecordId) → same_id a a ≡ true
-id_itself a = and_from _ _ (eq-eqb a.number a.number refl) (eq-eqb a.processor a.processor refl)
+use Rattle.mapdb_facts.proofs.Lists.SameNames.{same_id_itself}
 
 -- all atoms of the revocation's region are among the runs
 abbrev pub HasCut : Option (List Start) → Revocation → Type 0
@@ -48,7 +46,7 @@ module _ (old : Kept) (cut : Revocation) (o : Option (List Start)) (at : lookup 
   known_all : Knows (state_of_facts old) (Cut cut) → HasCut o cut
   known_all knows page right h i =
       ap (λ p. some_has has_at p (page, bit_of right)) (sym at)
-      ∙ knows (Rev cut.target page right) (and_from (same_id cut.target cut.target && holds cut.part page) (includes cut.rights right) (and_from (same_id cut.target cut.target) (holds cut.part page) (id_itself cut.target) h) i)
+      ∙ knows (Rev cut.target page right) (and_from (same_id cut.target cut.target && holds cut.part page) (includes cut.rights right) (and_from (same_id cut.target cut.target) (holds cut.part page) (same_id_itself cut.target) h) i)
 
   pub cut_known : (answer : Bool) → IsTrue answer ↔ HasCut o cut → IsTrue answer ↔ Knows (state_of_facts old) (Cut cut)
   cut_known answer h = (λ t. all_known (h.0 t), λ k. h.1 (known_all k))
@@ -72,7 +70,7 @@ region_known old cut runs at answer h =
 first_held : (first n : ℕ) → 0 < n → (nat_le first first && nat_lt first (first + n)) ≡ true
 first_held first n p = grind (arith, nat_tests)
 
-none_by : (a b c : Bool) → not (a || b || c) ≡ true → (a ≡ false) × (b ≡ false) × (c ≡ false)
+pub none_by : (a b c : Bool) → not (a || b || c) ≡ true → (a ≡ false) × (b ≡ false) × (c ≡ false)
 none_by false false false h = (refl, refl, refl)
 none_by false false true h = absurd (true≢false (sym h))
 none_by false true c h = absurd (true≢false (sym h))

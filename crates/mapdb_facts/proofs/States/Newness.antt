@@ -1,7 +1,8 @@
 -- What is new has an atom that the state lacks; what is not new adds nothing.
 use Rattle.std.proofs.Common.{◌≡◌, ℕ, Bool, true, false, Some, refl, sym, ap, subst, ◌∙◌, inl, inr}
-use Rattle.std.specs.Prelude.{◌&&◌, ◌||◌, ◌↔◌, not, Option, None, if◌then◌else◌}
+use Rattle.std.specs.Prelude.{◌&&◌, ◌↔◌, not, Option, None, if◌then◌else◌}
 use Rattle.std.proofs.lemmas.Bool.{and_parts, and_from, cases_Bool, cond-false, false≢true}
+use mathlib.Core.Bool.{or-false}
 use Rattle.mapdb_fpage.specs.declared.right_sets.Right.{Right}
 use Rattle.mapdb_fpage.specs.declared.right_sets.Right.TheVariants.{Execute, Read, Write}
 use Rattle.mapdb_fpage.specs.declared.right_sets.Rights.{Rights}
@@ -22,8 +23,9 @@ use Rattle.mapdb_facts.proofs.Maps.Atoms.{same_state}
 use Rattle.mapdb_facts.specs.Exact.{exact_record}
 use Rattle.mapdb_facts.proofs.RecordLemmas.SameRecords.{same_record_itself}
 use Rattle.mapdb_facts.proofs.Lists.SameNames.{same_id_itself, same_id_true, same_space_true}
+use Rattle.mapdb_join.proofs.Keyed.{absorbs}
 
-first_of_none : (o : Option Record) → first_of o None ≡ o
+pub first_of_none : (o : Option Record) → first_of o None ≡ o
 first_of_none (Some r) = refl
 first_of_none None = refl
 
@@ -31,20 +33,11 @@ first_of_held : (o x : Option Record) (r : Record) → is_held o r ≡ true → 
 first_of_held (Some s) x r h = refl
 first_of_held None x r h = absurd (false≢true h)
 
-or_none : (b : Bool) → (b || false) ≡ b
-or_none true = refl
-or_none false = refl
-
-or_old : (a b : Bool) → (b ≡ true → a ≡ true) → (a || b) ≡ a
-or_old true b h = refl
-or_old false true h = sym (h refl)
-or_old false false h = refl
-
-not_not : (b : Bool) → not b ≡ false → b ≡ true
+pub not_not : (b : Bool) → not b ≡ false → b ≡ true
 not_not true h = refl
 not_not false h = sym h
 
-without_is : (a b : Rights) (right : Right) → includes (without a b) right ≡ (includes a right && not (includes b right))
+pub without_is : (a b : Rights) (right : Right) → includes (without a b) right ≡ (includes a right && not (includes b right))
 without_is a b Read = refl
 without_is a b Write = refl
 without_is a b Execute = refl
@@ -74,21 +67,21 @@ said_old S (Born r) old =
       | inl hit ↦ first_of_held (S.record_at id) (if same_id r.id id then Some r else None) r (subst (λ (x : RecordId). is_held (S.record_at x) r ≡ true) (same_id_true r.id id hit) (not_not _ old))
       | inr miss ↦ ap (first_of (S.record_at id)) (cond-false (same_id r.id id) (Some r) None miss) ∙ first_of_none (S.record_at id)
     ])
-    (λ id page right. or_none (S.is_cut id page right))
-    (λ space. or_none (S.is_ended space))
+    (λ id page right. or-false (S.is_cut id page right))
+    (λ space. or-false (S.is_ended space))
 said_old S (Cut cut) old =
     same_state (join S (said (Cut cut))) S
     (λ id. first_of_none (S.record_at id))
-    (λ id page right. or_old (S.is_cut id page right) (cuts cut id page right)
+    (λ id page right. absorbs (S.is_cut id page right) (cuts cut id page right)
     (λ h. let parts = and_parts (same_id cut.target id && holds cut.part page) (includes cut.rights right) h in
     let where_is = and_parts (same_id cut.target id) (holds cut.part page) parts.0 in
     subst (λ (x : RecordId). S.is_cut x page right ≡ true) (same_id_true cut.target id where_is.0) (cut_old S cut old page right where_is.1 parts.1)))
-    (λ space. or_none (S.is_ended space))
+    (λ space. or-false (S.is_ended space))
 said_old S (Closed space) old =
     same_state (join S (said (Closed space))) S
     (λ id. first_of_none (S.record_at id))
-    (λ id page right. or_none (S.is_cut id page right))
-    (λ other. or_old (S.is_ended other) (same_space space other)
+    (λ id page right. or-false (S.is_cut id page right))
+    (λ other. absorbs (S.is_ended other) (same_space space other)
     (λ h. subst (λ (x : Space). S.is_ended x ≡ true) (same_space_true space other h) (not_not (S.is_ended space) old)))
 
 -- what is said of the same record is the same
@@ -99,7 +92,7 @@ held_by (Some s) r h = ap Some (exact_record s r h)
 held_from : (o : Option Record) (r : Record) → o ≡ Some r → is_held o r ≡ true
 held_from o r e = ap (λ (x : Option Record). is_held x r) e ∙ same_record_itself r
 
-not_true : (b : Bool) → not b ≡ true → b ≡ false
+pub not_true : (b : Bool) → not b ≡ true → b ≡ false
 not_true true h = absurd (false≢true h)
 not_true false h = refl
 

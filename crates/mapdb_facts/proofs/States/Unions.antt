@@ -15,7 +15,7 @@ to_either S T (Rec r) h = first_of_cases (S.record_at r.id) (T.record_at r.id) r
 to_either S T (Rev id page right) h = or_cases (S.is_cut id page right) (T.is_cut id page right) h
 to_either S T (End space) h = or_cases (S.is_ended space) (T.is_ended space) h
 
-from_first : (S T : State) (atom : Atom) → Has S atom → Has (join S T) atom
+pub from_first : (S T : State) (atom : Atom) → Has S atom → Has (join S T) atom
 from_first S T (Rec r) h = ap (λ (o : Option Record). first_of o (T.record_at r.id)) h
 from_first S T (Rev id page right) h = or_left _ _ h
 from_first S T (End space) h = or_left _ _ h

@@ -21,8 +21,8 @@ use Rattle.mapdb_lists.proofs.ChangeLemmas.LastChanges.{changed-none, last_left}
 other_page : (a b : ℕ) → (a ≡ b → ⊥) → nat_eq a b ≡ false
 other_page a b apart = elim (cases_Bool (nat_eq a b)) [ inl same ↦ absurd (apart (eqb-true a b same)) | inr other ↦ other ]
 
-page_of : (a b : PageChange) → a ≡ b → a.page ≡ b.page
-page_of a b same = ap (λ (e : PageChange). e.page) same
+pub same_page : (a b : PageChange) → a ≡ b → a.page ≡ b.page
+same_page a b same = ap (λ (e : PageChange). e.page) same
 
 tail_rises : (x : PageChange) (xs : List PageChange) → PagesRise (x ∷ xs) → PagesRise xs
 tail_rises x xs rise i j d less inside = rise (suc i) (suc j) d (omega arith) (omega arith)
@@ -72,14 +72,6 @@ module _ (list : List PageChange) (rise : PagesRise list) where
     | inr up ↦ let l : page < (get_or list k d).page = gap.behind k d up inside in let no : ⊥ = omega (arith, l, same) in no
   ])
 
-  -- where no change stands at the page, none is to be taken out
-  pub listed_without : (page at : ℕ) → IsGap list page at → (q : ℕ) → listed_change list q ≡ (if nat_eq page q then None else listed_change list q)
-  listed_without page at gap q = by (nat_eq page q) refl
-    where
-      by : (b : Bool) → nat_eq page q ≡ b → listed_change list q ≡ (if b then None else listed_change list q)
-      by true same = ap (listed_change list) (sym (eqb-true page q same)) ∙ listed_gap page at gap
-      by false other = refl
-
   -- ---- as a search finds it
 
   pub pages_part : (page : ℕ) → IsPartitionedBy (λ (e : PageChange). nat_le e.page page) list
@@ -121,7 +113,7 @@ module _ (list : List PageChange) (rise : PagesRise list) where
         before (suc k) some = omega arith
 
         at_most : (k : ℕ) (e d : PageChange) → k < length list → (get_or list k e).page ≡ (get_or list k d).page
-        at_most k e d within = page_of (get_or list k e) (get_or list k d) (get_or_default list k e d within)
+        at_most k e d within = same_page (get_or list k e) (get_or list k d) (get_or_default list k e d within)
 
     pub none_until : (end : ℕ) → ((d : PageChange) → spot < length list → end ≤ (get_or list spot d).page) → IsNoneUntil (listed_change list) page end
     none_until end up_to q above before = listed_none list q (λ k d inside same. elim (less_or_not k spot) [
@@ -216,10 +208,10 @@ module _ (list : List PageChange) (rise : PagesRise list) where
 
   module _ (page at : ℕ) (there : StandsAtPage list page at) where
     low_page : (k : ℕ) (d : PageChange) → k < at → (get_or (remove list at) k d).page ≡ (get_or list k d).page
-    low_page k d low = page_of (get_or (remove list at) k d) (get_or list k d) (get_or-remove_below list at d k low there.inside)
+    low_page k d low = same_page (get_or (remove list at) k d) (get_or list k d) (get_or-remove_below list at d k low there.inside)
 
     high_page : (k : ℕ) (d : PageChange) → at ≤ k → (get_or (remove list at) k d).page ≡ (get_or list (k + 1) d).page
-    high_page k d up = page_of (get_or (remove list at) k d) (get_or list (k + 1) d) (get_or-remove_above list at d k up there.inside)
+    high_page k d up = same_page (get_or (remove list at) k d) (get_or list (k + 1) d) (get_or-remove_above list at d k up there.inside)
 
     pub remove_rises : PagesRise (remove list at)
     remove_rises i j d less inside =
@@ -258,11 +250,11 @@ module _ (list : List PageChange) (rise : PagesRise list) where
     set_page : (k : ℕ) (d : PageChange) → (get_or (slice_set list at (record { page = page; change = change })) k d).page ≡ (get_or list k d).page
     set_page k d = elim (two k at) [
       | inl same ↦
-          page_of (get_or (slice_set list at (record { page = page; change = change })) k d) (record { page = page; change = change })
+          same_page (get_or (slice_set list at (record { page = page; change = change })) k d) (record { page = page; change = change })
           (get_or-set_at list at k (record { page = page; change = change }) d same there.inside)
           ∙ sym (there.here d) ∙ ap (λ n. (get_or list n d).page) (sym same)
       | inr other ↦
-          page_of (get_or (slice_set list at (record { page = page; change = change })) k d) (get_or list k d)
+          same_page (get_or (slice_set list at (record { page = page; change = change })) k d) (get_or list k d)
           (get_or-set_other list at k (record { page = page; change = change }) d other)
     ]
       where
@@ -286,19 +278,19 @@ module _ (list : List PageChange) (rise : PagesRise list) where
   module _ (page at : ℕ) (change : Change) (gap : IsGap list page at) where
     new_low : (k : ℕ) (d : PageChange) → k < at → (get_or (insert list at (record { page = page; change = change })) k d).page ≡ (get_or list k d).page
     new_low k d low =
-        page_of (get_or (insert list at (record { page = page; change = change })) k d) (get_or list k d)
+        same_page (get_or (insert list at (record { page = page; change = change })) k d) (get_or list k d)
         (get_or-insert_below list at (record { page = page; change = change }) d k low gap.inside)
 
     new_here : (k : ℕ) (d : PageChange) → k ≡ at → (get_or (insert list at (record { page = page; change = change })) k d).page ≡ page
     new_here k d here =
         ap (λ n. (get_or (insert list at (record { page = page; change = change })) n d).page) here
-        ∙ page_of (get_or (insert list at (record { page = page; change = change })) at d) (record { page = page; change = change })
+        ∙ same_page (get_or (insert list at (record { page = page; change = change })) at d) (record { page = page; change = change })
         (get_or-insert_at list at (record { page = page; change = change }) d gap.inside)
 
     new_high : (k : ℕ) (d : PageChange) → at < k → (get_or (insert list at (record { page = page; change = change })) k d).page ≡ (get_or list (k - 1) d).page
     new_high k d less =
         ap (λ n. (get_or (insert list at (record { page = page; change = change })) n d).page) (again k at less)
-        ∙ page_of (get_or (insert list at (record { page = page; change = change })) (k - 1 + 1) d) (get_or list (k - 1) d)
+        ∙ same_page (get_or (insert list at (record { page = page; change = change })) (k - 1 + 1) d) (get_or list (k - 1) d)
         (get_or-insert_above list at (record { page = page; change = change }) d (k - 1) (omega arith) gap.inside)
       where
         again : (k at : ℕ) → at < k → k ≡ k - 1 + 1
@@ -451,8 +443,8 @@ mapped_step list rise i d old new inside put h q = put q ∙ by (nat_eq (get_or 
         let long : length (take i list) ≡ i = length-take-le i list (omega (arith, inside)) in
         let short : k < i = omega (arith, long, within) in
         let less : (get_or list k f).page < (get_or list i f).page = rise k i f short inside in
-        let same : (get_or (take i list) k f).page ≡ (get_or list k f).page = page_of (get_or (take i list) k f) (get_or list k f) (get_or-take i list k f short) in
-        let one : (get_or list i f).page ≡ (get_or list i d).page = page_of (get_or list i f) (get_or list i d) (get_or_default list i f d inside) in
+        let same : (get_or (take i list) k f).page ≡ (get_or list k f).page = same_page (get_or (take i list) k f) (get_or list k f) (get_or-take i list k f short) in
+        let one : (get_or list i f).page ≡ (get_or list i d).page = same_page (get_or list i f) (get_or list i d) (get_or_default list i f d inside) in
         let no : ⊥ = omega (arith, less, same, one, here, at_q) in no)
 
     last : (o : Option Change) → o ≡ or_change o None

@@ -1,5 +1,5 @@
 -- The changes of a map, as a range of it shows them.
-use Rattle.std.proofs.Common.{◌≡◌, ℕ, ◌<◌, ◌≤◌, true, false, refl, sym, ap, subst, ◌∙◌, List, [], ◌∷◌, ◌++◌, arith}
+use Rattle.std.proofs.Common.{◌≡◌, ℕ, true, false, refl, sym, ap, subst, ◌∙◌, List, [], ◌∷◌, ◌++◌}
 use Rattle.std.specs.Prelude.{Option, None, Some, IfSome, IsSome, slice_get}
 use Rattle.std.specs.BTreeMap.{BTreeMap}
 use Rattle.std.specs.BTreeMap.Range.{IsRangeOf}
@@ -8,19 +8,14 @@ use Rattle.std.specs.Ordering.{is_gt, is_lt, nat_cmp}
 use Rattle.std.specs.declared.cmp.Ordering.TheVariants.{Greater}
 use Rattle.std.specs.declared.ops.Bound.TheVariants.{Excluded, Included, Unbounded}
 use Rattle.std.proofs.lemmas.Bool.{true≢false}
-use Rattle.std.proofs.lemmas.Cmp.{by_ranked, ranked}
 use Rattle.mapdb_facts.proofs.Lists.Comparing.{at_most_from, from_below}
 use Rattle.mapdb_lists.specs.declared.changes.Change.{Change}
 use Rattle.mapdb_lists.specs.OwnChanges.{IsLastChange, IsNoneUntil, mapped_change}
+use Rattle.mapdb_facts.proofs.NameLemmas.NextNames.{not_greater}
 
 none_unless : (o : Option Change) → (IsSome o → ⊥) → o ≡ None
 none_unless None h = refl
 none_unless (Some v) h = absurd (h (search Rattle.std.proofs.Common.rules))
-
-pub not_greater : (a b : ℕ) → a ≤ b → is_gt (nat_cmp a b) ≡ false
-not_greater a b h =
-    by_ranked (a < b) (a ≡ b) (b < a) (nat_cmp a b) (ranked a b (nat_cmp a b) refl)
-    (λ e _. ap is_gt e) (λ e _. ap is_gt e) (λ e lt. absurd (omega arith))
 
 module _ (map : BTreeMap ℕ Change) (page : ℕ) (r t : List (ℕ × Change)) (e : ℕ × Change) where
   pub last_shown : r ≡ t ++ e ∷ [] → IsRangeOf nat_cmp Unbounded (Included page) map r → IsLastChange (mapped_change map) page e

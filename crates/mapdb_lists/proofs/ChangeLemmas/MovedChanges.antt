@@ -11,7 +11,7 @@ use Rattle.mapdb_lists.specs.declared.changes.Change.{Change}
 use Rattle.mapdb_lists.specs.declared.few_changes.PageChange.{PageChange}
 use Rattle.mapdb_lists.specs.OwnChanges.{IsNoneUntil, listed_change}
 use Rattle.mapdb_lists.specs.PageOrder.{IsGap, IsSpot, PagesRise, StandsAtPage}
-use Rattle.mapdb_lists.proofs.ChangeLemmas.FewChanges.{gap_at_end, insert_rises, listed_gap, listed_here, listed_there, put_between, remove_rises, remove_spot, removed, spot_behind}
+use Rattle.mapdb_lists.proofs.ChangeLemmas.FewChanges.{gap_at_end, insert_rises, listed_gap, listed_here, listed_there, put_between, remove_rises, remove_spot, removed, spot_behind, same_page}
 use Rattle.mapdb_lists.proofs.ChangeLemmas.ListWrites.{put_elsewhere, put_here}
 
 pub exchanged : (list : List PageChange) (at : ℕ) (next : PageChange) → at < length list → slice_set list at next ≡ insert (remove list at) at next
@@ -21,9 +21,6 @@ exchanged (x ∷ list) (suc at) next inside = ap (λ (rest : List PageChange). x
 
 some_none : {change : Change} → Some change ≡ None → ⊥
 some_none e = search rules
-
-same_page : (a b : PageChange) → a ≡ b → a.page ≡ b.page
-same_page a b same = ap (λ (e : PageChange). e.page) same
 
 module _ (list : List PageChange) (rise : PagesRise list) (first end at : ℕ) (some : first < end) where
   apart : first ≡ end → ⊥

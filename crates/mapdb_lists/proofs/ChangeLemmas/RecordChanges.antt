@@ -1,14 +1,15 @@
 -- What the changes of one record say of those of all.
-use Rattle.std.proofs.Common.{◌≡◌, ℕ, true, cond, refl, sym, ap, subst, ◌∙◌}
-use Rattle.std.specs.Prelude.{nat_eq, Option, None, Some}
+use Rattle.std.proofs.Common.{◌≡◌, ℕ, cond, sym, ap, subst, ◌∙◌}
+use Rattle.std.specs.Prelude.{Option, None, Some}
 use Rattle.std.specs.Map.{lookup}
-use Rattle.std.proofs.lemmas.Bool.{and_from, cond-false, cond-true, eq-eqb}
+use Rattle.std.proofs.lemmas.Bool.{cond-false, cond-true}
 use Rattle.mapdb_facts.specs.Names.{same_id}
 use Rattle.mapdb_facts.specs.declared.names.RecordId.{RecordId}
 use Rattle.mapdb_lists.specs.declared.changes.Change.{Change}
 use Rattle.mapdb_lists.specs.declared.own_changes.OwnChanges.{OwnChanges}
 use Rattle.mapdb_lists.specs.Changes.{PageChanges, IsRewritten, IsWritten, at_first, change_at, change_in}
 use Rattle.mapdb_lists.specs.OwnChanges.{own_change}
+use Rattle.mapdb_facts.proofs.Lists.SameNames.{same_id_itself}
 
 -- the changes of a record that has some, and of one that has none
 pub own_found : (changes : PageChanges) (id : RecordId) (own : OwnChanges) → Some own ≡ lookup (same_id id) changes → own_change own ≡ change_at changes id
@@ -16,9 +17,6 @@ own_found changes id own found = λ i. λ page. change_in (found i) page
 
 pub own_absent : (changes : PageChanges) (id : RecordId) (page : ℕ) → None ≡ lookup (same_id id) changes → change_at changes id page ≡ None
 own_absent changes id page absent = ap (λ (own : Option OwnChanges). change_in own page) (sym absent)
-
-itself : (id : RecordId) → same_id id id ≡ true
-itself id = and_from (nat_eq id.number id.number) (nat_eq id.processor id.processor) (eq-eqb id.number id.number refl) (eq-eqb id.processor id.processor refl)
 
 -- pages of one record are given a change
 module _ (old new : PageChanges) (id : RecordId) (first end : ℕ) (was change : Change) (before own : OwnChanges)
@@ -34,7 +32,7 @@ module _ (old new : PageChanges) (id : RecordId) (first end : ℕ) (was change :
   }
     where
       here : change_at new id ≡ own_change own
-      here = λ i. λ q. change_in ((changed id ∙ cond-true (same_id id id) (Some own) (lookup (same_id id) old) (itself id)) i) q
+      here = λ i. λ q. change_in ((changed id ∙ cond-true (same_id id id) (Some own) (lookup (same_id id) old) (same_id_itself id)) i) q
 
   -- where the record has changes
   pub written_changed : Some before ≡ lookup (same_id id) old → IsWritten old id first end was change new

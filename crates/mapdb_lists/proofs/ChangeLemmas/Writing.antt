@@ -1,7 +1,7 @@
 -- What changes stand for after pages were given one.
-use Rattle.std.proofs.Common.{◌≡◌, ℕ, ◌<◌, ◌≤◌, true, false, refl, sym, ◌∙◌, arith, inl, inr, subst}
-use Rattle.std.specs.Prelude.{◌&&◌, Some, None, nat_eq, nat_le, nat_lt, if◌then◌else◌}
-use Rattle.std.proofs.lemmas.Bool.{and_from, and_left, and_right, cases_Bool, cond-false, cond-true, eq-eqb, lt-ltb, ltb-true}
+use Rattle.std.proofs.Common.{◌≡◌, ℕ, ◌<◌, ◌≤◌, true, false, sym, ◌∙◌, arith, inl, inr, subst}
+use Rattle.std.specs.Prelude.{◌&&◌, Some, None, nat_le, nat_lt, if◌then◌else◌}
+use Rattle.std.proofs.lemmas.Bool.{and_from, and_left, and_right, cases_Bool, cond-false, cond-true, lt-ltb, ltb-true}
 use Rattle.mapdb_fpage.specs.Bounds.{page_limit}
 use Rattle.mapdb_fpage.specs.Place.{is_page}
 use Rattle.mapdb_lists.specs.declared.changes.Change.{Change}
@@ -11,9 +11,7 @@ use Rattle.mapdb_facts.specs.Names.{same_id}
 use Rattle.mapdb_facts.specs.declared.names.RecordId.{RecordId}
 use Rattle.mapdb_lists.specs.Changes.{covers, PageChanges, IsStretch, IsWritten, at_first, past_the_end, seen_in, change_at, changed}
 use Rattle.mapdb_lists.proofs.ChangeLemmas.LastChanges.{changed-here, changed-same, changed-stays, given_before, given_behind, given_inside}
-
-itself : (id : RecordId) → same_id id id ≡ true
-itself id = and_from (nat_eq id.number id.number) (nat_eq id.processor id.processor) (eq-eqb id.number id.number refl) (eq-eqb id.processor id.processor refl)
+use Rattle.mapdb_facts.proofs.Lists.SameNames.{same_id_itself}
 
 -- what is seen is alike where the last changes are
 pub seen_alike : (old new : PageChanges) (other : RecordId) (page : ℕ)
@@ -87,7 +85,7 @@ module _ (old new : PageChanges) (id : RecordId) (first end : ℕ) (was change :
           | inl inside ↦
               seen_inside page (is_from first page from) (ltb-true page end inside)
               ∙ sym (cond-true (covers id first end id page) change (seen_in old id page)
-              (and_from (same_id id id) (nat_le first page && nat_lt page end) (itself id) (and_from (nat_le first page) (nat_lt page end) from inside)))
+              (and_from (same_id id id) (nat_le first page && nat_lt page end) (same_id_itself id) (and_from (nat_le first page) (nat_lt page end) from inside)))
           | inr behind ↦
               not_covered id page (and_right (same_id id id) (nat_le first page && nat_lt page end) (and_right (nat_le first page) (nat_lt page end) behind))
               (seen_behind page (not_before page end behind))

@@ -11,7 +11,7 @@ use Rattle.std.specs.declared.cmp.Ordering.{Ordering}
 use Rattle.std.specs.declared.cmp.Ordering.TheVariants.{Equal, Greater, Less}
 use Rattle.std.specs.declared.ops.Bound.{Bound}
 use Rattle.std.specs.declared.ops.Bound.TheVariants.{Excluded, Included, Unbounded}
-use Rattle.std.proofs.lemmas.Bool.{and_parts, cases_Bool, true≢false}
+use Rattle.std.proofs.lemmas.Bool.{and_parts, cases_Bool, or_right, true≢false}
 use Rattle.std.proofs.lemmas.List.{take_more}
 use Rattle.std.proofs.lemmas.List.Folds.{list_any_at}
 use Rattle.std.proofs.lemmas.List.Kept.{IsStrictlySortedBy-filter}
@@ -60,11 +60,7 @@ module _ (test : OwnPlace → Bool) (done : List OwnPlace) (p : OwnPlace) where
       ]
 
   still_stands : (k : OwnPlace) → stands done k ≡ true → stands (done ++ p ∷ []) k ≡ true
-  still_stands k has = stands_more done p k ∙ later (is_at (place_cmp p) k) (stands done k) has
-    where
-      later : (a b : Bool) → b ≡ true → (a || b) ≡ true
-      later true b h = refl
-      later false b h = h
+  still_stands k has = stands_more done p k ∙ or_right (is_at (place_cmp p) k) (stands done k) has
 
   new_stands : stands (done ++ p ∷ []) p ≡ true
   new_stands = stands_more done p p ∙ ap (λ (b : Bool). b || stands done p) (place_itself p)
@@ -196,15 +192,11 @@ module _ (set : BTreeSet OwnPlace) (start : Bound OwnPlace) (p : OwnPlace) (rest
       let up = sorted_rest p (q ∷ more) (subst (λ (xs : List OwnPlace). IsStrictlySortedBy place_cmp (p ∷ xs)) next rising) in
       let here : stands rest q ≡ true = ap (λ (xs : List OwnPlace). stands xs q) next ∙ ap (λ (b : Bool). b || stands more q) (place_itself q) in
       record {
-        held = (and_parts (range_contains place_cmp start Unbounded q) (stands set.keys q) (sym (found_as q) ∙ later (is_at (place_cmp q) p) (stands rest q) here)).1;
+        held = (and_parts (range_contains place_cmp start Unbounded q) (stands set.keys q) (sym (found_as q) ∙ or_right (is_at (place_cmp q) p) (stands rest q) here)).1;
         passing = ap is_lt up.0.0;
         least = λ k has above. by k (sym (ap (λ (xs : List OwnPlace). stands xs k) next) ∙ in_rest k has above) (sorted_rest q more up.1).0;
       }
     where
-      later : (a b : Bool) → b ≡ true → (a || b) ≡ true
-      later true b h = refl
-      later false b h = h
-
       by : (k : OwnPlace) → stands (q ∷ more) k ≡ true → AllByRecursion (λ (y : OwnPlace). place_cmp q y ≡ Less) more → is_gt (place_cmp q k) ≡ false
       by k has all = elim (cases_Bool (is_at (place_cmp k) q)) [
         | inl same ↦ subst (λ (x : OwnPlace). is_gt (place_cmp q x) ≡ false) (sym (exact_place k q same)) (le_itself q)

@@ -3,7 +3,7 @@ use Rattle.std.proofs.Common.{◌≡◌, ℕ, ◌+◌, ◌-◌, ◌*◌, ◌/◌
 use Rattle.std.specs.Prelude.{◌⊎◌, min, max, Option, None, Some, is_some}
 use Rattle.std.specs.BTreeMap.Range.{is_from_start}
 use Rattle.std.specs.Ordering.{is_gt, is_lt}
-use Rattle.std.specs.declared.ops.Bound.TheVariants.{Excluded, Included}
+use Rattle.std.specs.declared.ops.Bound.TheVariants.{Included}
 use Rattle.std.proofs.lemmas.Bool.{cases_Bool, ltb-true, ltb-false, true≢false}
 use Rattle.std.proofs.lemmas.Nat.{pow_pos}
 use Rattle.mapdb_lists.specs.declared.own_places.OwnPlace.{OwnPlace}
@@ -208,14 +208,6 @@ module _ (places : List OwnPlace) (first end : ℕ) where
     least = λ k has above meeting. h.least k has (omega arith) meeting;
   }
 
-  pub begin_above : (after : OwnPlace) (r : Option OwnPlace) → IsFirstPlaceWhere (is_from_start place_cmp (Excluded after)) places r → HasReached places first end (Some after) r
-  begin_above after None h = λ k has above. absurd (true≢false (sym above ∙ h k has))
-  begin_above after (Some p) h = record {
-    held = h.held;
-    above = h.passing;
-    least = λ k has above meeting. h.least k has above;
-  }
-
   -- ---- and goes on
 
   pub above_on : (after : Option OwnPlace) (c p : OwnPlace) → is_beyond after c ≡ true → is_beyond (Some c) p ≡ true → is_beyond after p ≡ true
@@ -252,10 +244,6 @@ no_order orders bound None h none k has = h k has
 no_order orders bound (Some order) h none k has = absurd (true≢false none)
 
 module _ (places : List OwnPlace) (orders : Orders) (aligned : AreAligned places) (have : HaveOrders places orders) (first end : ℕ) (p : OwnPlace) where
-  -- nothing stands above it
-  pub last_of_all : ((k : OwnPlace) → stands places k ≡ true → is_beyond (Some p) k ≡ false) → IsNextPlace places first end (Some p) None
-  last_of_all none k has above = absurd (true≢false (sym above ∙ none k has))
-
   -- no order stands above its own, and of its own all begin behind the pages
   pub last_of_order : (next : OwnPlace) (bound : ℕ) → bound ≤ p.order + 1 → ((next.order ≡ p.order) → end ≤ next.first)
       → ((k : OwnPlace) → stands places k ≡ true → is_beyond (Some p) k ≡ true → is_gt (place_cmp next k) ≡ false) → is_beyond (Some p) next ≡ true

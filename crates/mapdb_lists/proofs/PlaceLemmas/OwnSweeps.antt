@@ -1,11 +1,10 @@
 -- What a sweep over the places of one owner has ahead.
-use Rattle.std.proofs.Common.{◌≡◌, ℕ, ◌<◌, Bool, true, false, refl, sym, ap, subst, List, [], ◌∷◌, drop, get_or, length, ◌+◌, ◌∙◌, arith, inl, inr}
-use Rattle.std.specs.Prelude.{◌&&◌, ◌||◌, ◌⊎◌, Option, None, Some, filter, if◌then◌else◌}
+use Rattle.std.proofs.Common.{◌≡◌, ℕ, ◌<◌, Bool, true, false, refl, sym, ap, subst, List, [], ◌∷◌, length, ◌∙◌, arith, inl, inr}
+use Rattle.std.specs.Prelude.{◌&&◌, Option, None, Some, filter, if◌then◌else◌}
 use Rattle.std.specs.BTreeMap.{is_at}
 use Rattle.std.specs.Ordering.{is_lt}
-use Rattle.std.proofs.lemmas.Bool.{and_from, and_parts, cases_Bool, true≢false}
+use Rattle.std.proofs.lemmas.Bool.{and_from, and_parts, true≢false}
 use Rattle.std.proofs.lemmas.Cmp.{tied_itself}
-use Rattle.std.proofs.lemmas.List.{drop_more}
 use Rattle.std.proofs.lemmas.Map.Views.{any-filter_same}
 use Rattle.std.proofs.lemmas.Option.{none-some}
 use Rattle.mapdb_lists.specs.declared.own_places.FoundPlace.{FoundPlace}
@@ -104,13 +103,3 @@ few_are_all (Few list) places is = ap unwrapped is
     unwrapped None = []
     unwrapped (Some items) = items
 few_are_all (Many many) places is = absurd (none-some places (sym is))
-
--- what stands from an index on is the place there, or stands behind it
-pub next_or_behind : (places : List OwnPlace) (i : ℕ) (d k : OwnPlace) → i < length places → stands (drop i places) k ≡ true
-    → (get_or places i d ≡ k) ⊎ (stands (drop (i + 1) places) k ≡ true)
-next_or_behind places i d k inside has =
-    let next : OwnPlace = get_or places i d in
-    elim (cases_Bool (is_at (place_cmp k) next)) [
-      | inl here ↦ inl (sym (exact_place k next here))
-      | inr other ↦ inr (ap (λ (b : Bool). b || stands (drop (i + 1) places) k) (sym other) ∙ ap (λ (l : List OwnPlace). stands l k) (sym (drop_more places i d inside)) ∙ has)
-    ]

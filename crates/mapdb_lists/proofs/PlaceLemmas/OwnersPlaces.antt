@@ -7,7 +7,7 @@ use Rattle.std.specs.List.{list_any}
 use Rattle.std.specs.Map.{lookup}
 use Rattle.std.specs.Ordering.{is_eq, is_gt, is_lt}
 use Rattle.std.specs.declared.ops.Bound.TheVariants.{Excluded, Included}
-use Rattle.std.proofs.lemmas.Bool.{cases_Bool, cond-false, cond-true, false≢true, true≢false}
+use Rattle.std.proofs.lemmas.Bool.{cases_Bool, cond-false, cond-true, false≢true, or_right, true≢false}
 use Rattle.std.proofs.lemmas.List.Folds.{list_any-append}
 use Rattle.mapdb_lists.specs.declared.own_places.OwnPlace.{OwnPlace}
 use Rattle.mapdb_lists.specs.declared.own_places.OwnPlaces.{OwnPlaces}
@@ -113,11 +113,7 @@ any_first : {X : Type 0} (t : X → Bool) (xs ys : List X) → list_any t xs ≡
 any_first t xs ys h = list_any-append t xs ys ∙ ap (λ (b : Bool). b || list_any t ys) h
 
 any_later : {X : Type 0} (t : X → Bool) (xs ys : List X) → list_any t ys ≡ true → list_any t (xs ++ ys) ≡ true
-any_later t xs ys h = list_any-append t xs ys ∙ later (list_any t xs) (list_any t ys) h
-  where
-    later : (a b : Bool) → b ≡ true → (a || b) ≡ true
-    later true b h = refl
-    later false b h = h
+any_later t xs ys h = list_any-append t xs ys ∙ or_right (list_any t xs) (list_any t ys) h
 
 any_owned : (e : Listed) (o : Owner) (ps : List OwnPlace) → o ≡ e.owner → stands ps (own_place e) ≡ true → list_any (is_at (listed_cmp e)) (map (listed_for o) ps) ≡ true
 any_owned e o [] same h = absurd (false≢true h)

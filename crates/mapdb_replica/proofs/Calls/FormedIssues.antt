@@ -1,8 +1,8 @@
 -- What a command issues is well-formed, and its records have places, and the processor of the copy in their names.
 use Rattle.std.proofs.Common.{◌≡◌, ℕ, ◌+◌, ◌/◌, ◌^◌, ◌<◌, ◌≤◌, Bool, true, false, Ok, Err, Result, Some, refl, sym, ap, subst, List, [], ◌∷◌, ◌++◌, inl, inr, arith}
-use Rattle.std.specs.Prelude.{◌||◌, IfSome, Option, None, filter, is_ok, map, min, nat_le, if◌then◌else◌}
+use Rattle.std.specs.Prelude.{IfSome, Option, None, filter, is_ok, map, min, nat_le, if◌then◌else◌}
 use Rattle.std.specs.List.{cons_option, filter_map, flat_map, list_any}
-use Rattle.std.proofs.lemmas.Bool.{and_from, and_parts, cond-false, true≢false}
+use Rattle.std.proofs.lemmas.Bool.{and_from, and_parts, cond-false, or_parts}
 use Rattle.std.proofs.lemmas.Bool.Decides.{nat_tests}
 use Rattle.mapdb_fpage.specs.Bounds.{least_order}
 use Rattle.mapdb_fpage.specs.Place.{IsPlace, IsWithin, Place, holds, meet, whole}
@@ -15,7 +15,7 @@ use Rattle.mapdb_fpage.proofs.Parts.{meet_is_within}
 use Rattle.mapdb_facts.specs.Adding.{is_new}
 use Rattle.mapdb_facts.specs.Names.{is_first_space, is_root_number, number_limit, processor_limit, root, same_space}
 use Rattle.mapdb_facts.specs.Records.{IsAmong, greatest_number, records_of}
-use Rattle.mapdb_facts.specs.State.{Gives, HasAtom, Rec, State, join, said, state_of}
+use Rattle.mapdb_facts.specs.State.{HasAtom, Rec, State, join, said, state_of}
 use Rattle.mapdb_facts.specs.WellFormed.{IsFormedRecord, all_formed, checked, is_formed, is_reference}
 use Rattle.mapdb_facts.specs.declared.names.Space.{Space}
 use Rattle.mapdb_facts.specs.declared.operations.Op.{Op}
@@ -38,24 +38,15 @@ use Rattle.mapdb_replica.proofs.Unmaps.CutForms.{all_cuts, record_target}
 use Rattle.mapdb_replica.proofs.Calls.Issuing.{piece_checked}
 use Rattle.mapdb_replica.proofs.News.NewsAtoms.{news_among}
 use Rattle.mapdb_replica.proofs.Calls.SoundIssues.{end_none, unmap_none}
+use Rattle.mapdb_replica.proofs.Copies.OpForms.{record_formed}
 
 -- The records of well-formed operations.
-
-gives_formed : (op : Op) (r : Record) → Gives op (Rec r) → is_formed op ≡ true → is_formed (Born r) ≡ true
-gives_formed (Born s) r gives formed = subst (λ (x : Record). is_formed (Born x) ≡ true) gives formed
-gives_formed (Cut cut) r gives formed = absurd gives
-gives_formed (Closed space) r gives formed = absurd gives
-
-pub formed_has : (ops : List Op) (r : Record) → all_formed ops ≡ true → HasAtom ops (Rec r) → is_formed (Born r) ≡ true
-formed_has [] r all has = absurd has
-formed_has (op ∷ ops) r all (inl gives) = gives_formed op r gives (and_parts (is_formed op) (all_formed ops) all).0
-formed_has (op ∷ ops) r all (inr later) = formed_has ops r (and_parts (is_formed op) (all_formed ops) all).1 later
 
 listed_has : (ops : List Op) (r : Record) → IsAmong r (records_of ops) → HasAtom ops (Rec r)
 listed_has ops r among = (record_held ops r.id r (listed_found ops r among)).0
 
 pub listed_formed : (ops : List Op) → all_formed ops ≡ true → (r : Record) → IsAmong r (records_of ops) → IsFormedRecord r
-listed_formed ops all r among = formed_record r (formed_has ops r all (listed_has ops r among))
+listed_formed ops all r among = formed_record r (record_formed ops r all (listed_has ops r among))
 
 -- what is new of well-formed operations is well-formed
 formed_news : (S : State) (ops : List Op) → all_formed ops ≡ true → all_formed (news S ops) ≡ true
@@ -159,10 +150,6 @@ map_carried send_base rights None window is_page is_window = tt
 
 -- The candidates of a Map.
 
-neither : (a b : Bool) → (a || b) ≡ false → (a ≡ false) × (b ≡ false)
-neither true b h = absurd (true≢false h)
-neither false b h = (refl, h)
-
 below_limit : (n : ℕ) → nat_le number_limit n ≡ false → n < number_limit
 below_limit n h = grind (arith, nat_tests)
 
@@ -171,7 +158,7 @@ module _ (processor : ℕ) (receiver : Space) (transfer : Transfer) (greatest : 
       → list_any is_spent (numbered_records number processor receiver transfer pieces) ≡ false → all_formed (numbered_records number processor receiver transfer pieces) ≡ true
   numbered_formed number [] fits low issuer space few = refl
   numbered_formed number (piece ∷ rest) fits low issuer space few =
-      let parts = neither (nat_le number_limit number) (list_any is_spent (numbered_records (number + 1) processor receiver transfer rest)) few in
+      let parts = or_parts (nat_le number_limit number) (list_any is_spent (numbered_records (number + 1) processor receiver transfer rest)) few in
       and_from (is_formed (Born (mapped_record (record { number = number; processor = processor }) receiver transfer piece))) (all_formed (numbered_records (number + 1) processor receiver transfer rest))
       (ap is_ok (piece_checked number processor receiver transfer greatest piece fits.0 low (below_limit number parts.0) issuer space))
       (numbered_formed (number + 1) rest fits.1 (omega arith) issuer space parts.1)

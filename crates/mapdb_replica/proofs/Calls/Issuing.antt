@@ -47,7 +47,7 @@ free_from ops n is id above = free_at ops n id ((state_of ops).record_at id) ref
 numbers_differ : (a b : RecordId) → a.number < b.number → same_id a b ≡ false
 numbers_differ a b h = grind (arith, nat_tests)
 
-first_of_none : (o x : Option Record) → o ≡ None → first_of o x ≡ x
+pub first_of_none : (o x : Option Record) → o ≡ None → first_of o x ≡ x
 first_of_none o x h = ap (λ (a : Option Record). first_of a x) h
 
 -- a record of the first free number leaves the next one free

@@ -53,10 +53,6 @@ module _ (processor : ℕ) (receiver : Space) (transfer : Transfer) where
   not_zero : (n : ℕ) → not (suc n == 0) ≡ true
   not_zero n = grind (arith, nat_tests)
 
-  or_false : (b : Bool) → (b || false) ≡ b
-  or_false true = refl
-  or_false false = refl
-
   spent_below : (greatest count : ℕ) → nat_le number_limit (greatest + 1) ≡ false → (not (count == 0) && nat_le number_limit (greatest + 1 + count)) ≡ nat_le number_limit (greatest + suc count)
   spent_below greatest zero below = sym below
   spent_below greatest (suc count) below =

@@ -12,7 +12,7 @@ use Rattle.mapdb_rights.specs.Following.{AreListed}
 use Rattle.mapdb_rights.specs.Index.{KeepsUp}
 use Rattle.mapdb_rights.specs.declared.index.rights_index.RightsIndex.{RightsIndex}
 use Rattle.mapdb_replica.proofs.Copies.OpForms.{HasForm, source_is}
-use Rattle.mapdb_replica.proofs.Maps.HolderNames.{not_root}
+use Rattle.mapdb_rights.proofs.Live.LiveRecords.{not_root}
 
 -- an index that has an answer is there
 pub answers_there : {A E : Type 0} → (index : RightsIndex) (result : Result (Option A) E) (found : A) → (index.absent ≡ true → result ≡ Ok None)

@@ -14,8 +14,8 @@ use Rattle.mapdb_facts.specs.declared.operations.Op.{Op}
 use Rattle.mapdb_facts.specs.declared.operations.Op.TheVariants.{Born, Closed, Cut}
 use Rattle.mapdb_facts.specs.declared.operations.Record.{Record}
 use Rattle.mapdb_rights.specs.Meeting.{source_place}
-use Rattle.mapdb_replica.proofs.Maps.HolderNames.{not_root}
 use Rattle.mapdb_replica.specs.Forms.{HavePlaces}
+use Rattle.mapdb_rights.proofs.Live.LiveRecords.{not_root}
 
 -- what every list of well-formed operations has
 pub record HasForm (S : State) : Type 0 where
@@ -31,7 +31,7 @@ abbrev pub IsKnown : State → RecordId → Type 0
 IsKnown S id = (is_root id ≡ true) ⊎ ((r : Record) × (S.record_at id ≡ Some r))
 
 -- each record of well-formed operations is well-formed
-record_formed : (ops : List Op) (r : Record) → all_formed ops ≡ true → HasAtom ops (Rec r) → is_formed (Born r) ≡ true
+pub record_formed : (ops : List Op) (r : Record) → all_formed ops ≡ true → HasAtom ops (Rec r) → is_formed (Born r) ≡ true
 record_formed [] r all h = absurd h
 record_formed (Born s ∷ ops) r all (inl same) = subst (λ (x : Record). is_formed (Born x) ≡ true) same
     (and_parts (is_formed (Born s)) (all_formed ops) all).0

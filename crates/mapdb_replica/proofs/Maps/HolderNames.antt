@@ -1,14 +1,14 @@
 -- The holders of a space stand in ascending order of name, and are found by name as records are.
 use Rattle.std.proofs.Common.{◌≡◌, Bool, true, false, Some, refl, sym, ap, subst, ◌∙◌, List, [], ◌∷◌, ◌++◌, inl, inr, arith}
-use Rattle.std.specs.Prelude.{◌⊎◌, ◌&&◌, Option, None, filter, nat_lt, map, if◌then◌else◌}
-use Rattle.std.proofs.lemmas.Bool.{and_parts, cond-false, cond-true, false≢true}
+use Rattle.std.specs.Prelude.{◌⊎◌, ◌&&◌, Option, None, filter, map, if◌then◌else◌}
+use Rattle.std.proofs.lemmas.Bool.{cond-false, cond-true, false≢true}
 use Rattle.std.proofs.lemmas.Bool.Decides.{nat_tests}
 use Rattle.mapdb_fpage.specs.Place.{whole}
 use Rattle.mapdb_facts.specs.Facts.{births, records_of_facts, state_of_facts}
 use Rattle.mapdb_facts.specs.Kept.{names_in}
 use Rattle.mapdb_facts.specs.Looking.{Holds}
 use Rattle.mapdb_facts.specs.Merging.{IsNamed}
-use Rattle.mapdb_facts.specs.Names.{is_before, is_first_space, is_root, number_limit, root, same_id, same_space}
+use Rattle.mapdb_facts.specs.Names.{is_before, is_first_space, is_root, root, same_id, same_space}
 use Rattle.mapdb_facts.specs.Records.{AllAfter, IsAmong, IsAscending}
 use Rattle.mapdb_facts.specs.WellFormed.{IsFormedRecord}
 use Rattle.mapdb_facts.specs.declared.holding.Facts.{Facts}
@@ -21,6 +21,7 @@ use Rattle.mapdb_facts.proofs.Lists.SameNames.{same_id_true}
 use Rattle.mapdb_replica.specs.Issue.{holder_of, holders, record_holders}
 use Rattle.mapdb_replica.specs.Revoking.{find_holder, first_holder, holder_named, record_holder}
 use Rattle.mapdb_replica.specs.declared.pieces.Holder.{Holder}
+use Rattle.mapdb_facts.proofs.NameLemmas.NamedEntries.{turned}
 
 -- the order of holders
 abbrev pub by_name : Holder → RecordId
@@ -28,9 +29,6 @@ by_name h = h.id
 
 other_before : (a b : RecordId) → is_before a b ≡ true → same_id b a ≡ false
 other_before a b x = grind (arith, nat_tests)
-
-same_turned : (a b : RecordId) → same_id a b ≡ same_id b a
-same_turned a b = grind (arith, nat_tests)
 
 pub not_both : (a b : Bool) → (a ≡ false) ⊎ (b ≡ false) → (a && b) ≡ false
 not_both true b (inl no_a) = absurd (false≢true (sym no_a))
@@ -65,13 +63,6 @@ listed_held facts named r among =
 -- and so well-formed
 pub listed_formed : (facts : Facts) → IsNamed (state_of_facts facts) → ((r : Record) → Holds (state_of_facts facts) r → IsFormedRecord r) → (r : Record) → IsAmong r (records_of_facts facts) → IsFormedRecord r
 listed_formed facts named formed r among = formed r (listed_held facts named r among)
-
--- and has not the name of the root
-pub not_root : (r : Record) → IsFormedRecord r → is_root r.id ≡ false
-not_root r formed = other r.id (and_parts (nat_lt 0 r.id.number) (nat_lt r.id.number number_limit) formed.has_number).0
-  where
-    other : (id : RecordId) → nat_lt 0 id.number ≡ true → is_root id ≡ false
-    other id some = grind (arith, nat_tests)
 
 module _ (space : Space) where
   after-step : (id : RecordId) (r : Record) (rest : List Record) (b : Bool) → is_before id r.id ≡ true → AllAfter by_name id (record_holders space rest)
@@ -131,12 +122,12 @@ module _ (space : Space) where
 
   first-named : (id : RecordId) (rest : List Holder) (b : Bool) → b ≡ true → is_root id ≡ true
       → find_holder ((if b then record { id = root; place = whole } ∷ [] else []) ++ rest) id ≡ (if b then Some (record { id = root; place = whole }) else None)
-  first-named id rest true first top = cond-true (same_id root id) (Some (record { id = root; place = whole })) (find_holder rest id) (same_turned root id ∙ top)
+  first-named id rest true first top = cond-true (same_id root id) (Some (record { id = root; place = whole })) (find_holder rest id) (turned root id ∙ top)
   first-named id rest false first top = absurd (false≢true first)
 
   later-named : (id : RecordId) (rest : List Holder) (b : Bool) → (b && is_root id) ≡ false
       → find_holder ((if b then record { id = root; place = whole } ∷ [] else []) ++ rest) id ≡ find_holder rest id
-  later-named id rest true other = cond-false (same_id root id) (Some (record { id = root; place = whole })) (find_holder rest id) (same_turned root id ∙ other)
+  later-named id rest true other = cond-false (same_id root id) (Some (record { id = root; place = whole })) (find_holder rest id) (turned root id ∙ other)
   later-named id rest false other = refl
 
   -- the root's name in the first space

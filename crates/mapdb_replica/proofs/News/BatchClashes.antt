@@ -18,14 +18,6 @@ use Rattle.mapdb_replica.specs.Clashing.{ClashesAt, IsLeastPassing}
 use Rattle.mapdb_replica.specs.Taking.{clash_among, is_other, least_clash}
 use Rattle.mapdb_replica.proofs.News.LeastNames.{least-listed, least-same}
 
--- two records are one or not
-pub same_or_apart : (r s : Record) → (r ≡ s) ⊎ (r ≢ s)
-same_or_apart r s =
-    elim (cases_Bool (same_record r s)) [
-      | inl same ↦ inl (exact_record r s same)
-      | inr other ↦ inr (λ e. true≢false (sym (subst (λ (x : Record). same_record r x ≡ true) e (same_record_itself r)) ∙ other))
-    ]
-
 pub apart_false : (r s : Record) → r ≢ s → same_record r s ≡ false
 apart_false r s apart = elim (cases_Bool (same_record r s)) [ inl same ↦ absurd (apart (exact_record r s same)) | inr other ↦ other ]
 

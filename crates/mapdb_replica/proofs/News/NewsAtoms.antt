@@ -84,7 +84,7 @@ step_old held rest ops op old same atom = (λ has. forth ((same atom).0 has), λ
     back (inr (inl gives)) = atom_left held ops atom (atom_held held atom (old_known (state_of held) op atom old gives))
     back (inr (inr later)) = atom_right held ops atom later
 
-same_itself : (xs : List Op) → SameAtoms xs xs
+pub same_itself : (xs : List Op) → SameAtoms xs xs
 same_itself xs atom = (λ has. has, λ has. has)
 
 pub news_give : NewsGiveTheRest

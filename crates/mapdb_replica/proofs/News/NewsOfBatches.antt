@@ -1,15 +1,14 @@
 -- What is new of a batch, one operation after the other.
 use Rattle.std.proofs.Common.{◌≡◌, ◌+◌, ◌≤◌, Bool, true, false, refl, sym, ap, subst, ◌∙◌, List, [], ◌∷◌, ◌++◌, length, arith}
-use Rattle.std.specs.Prelude.{Option, count_by, if◌then◌else◌}
-use Rattle.std.proofs.lemmas.Bool.{or_left}
+use Rattle.std.specs.Prelude.{count_by, if◌then◌else◌}
 use Rattle.std.proofs.lemmas.List.Sums.{sum_by-cons, sum_by-le-sum_by}
 use Rattle.mapdb_facts.specs.Adding.{is_new}
-use Rattle.mapdb_facts.specs.State.{Atom, End, Has, Rec, Rev, State, first_of, join, said, state_of}
+use Rattle.mapdb_facts.specs.State.{State, join, said, state_of}
 use Rattle.mapdb_facts.specs.declared.operations.Op.{Op}
-use Rattle.mapdb_facts.specs.declared.operations.Record.{Record}
 use Rattle.mapdb_facts.proofs.States.Joins.{join_assoc, join_nothing, state_of-append}
 use Rattle.mapdb_facts.proofs.States.Newness.{new_is_exact, said_old}
 use Rattle.mapdb_replica.specs.Replica.{news}
+use Rattle.mapdb_facts.proofs.States.Unions.{from_first}
 
 -- what the first operations of a batch say is said, whether they are new or not
 said_first : (S : State) (op : Op) (xs : List Op) → is_new S op ≡ false → join S (state_of (op ∷ xs)) ≡ join S (state_of xs)
@@ -40,16 +39,11 @@ state-news S (op ∷ xs) = step (is_new S op) refl (state-news (join S (said op)
 pub state-taken : (held xs : List Op) → state_of (held ++ news (state_of held) xs) ≡ state_of (held ++ xs)
 state-taken held xs = state_of-append held (news (state_of held) xs) ∙ state-news (state_of held) xs ∙ sym (state_of-append held xs)
 
-has_more : (S T : State) (atom : Atom) → Has S atom → Has (join S T) atom
-has_more S T (Rec r) h = ap (λ (o : Option Record). first_of o (T.record_at r.id)) h
-has_more S T (Rev id page right) h = or_left (S.is_cut id page right) (T.is_cut id page right) h
-has_more S T (End space) h = or_left (S.is_ended space) (T.is_ended space) h
-
 -- what is new at its turn was new before
 pub new_before : (S T : State) (op : Op) → is_new (join S T) op ≡ true → is_new S op ≡ true
 new_before S T op new =
     let found = (new_is_exact (join S T) op).0 new in
-    (new_is_exact S op).1 (found.0, found.1, λ has. found.2 (has_more S T found.0 has))
+    (new_is_exact S op).1 (found.0, found.1, λ has. found.2 (from_first S T found.0 has))
 
 fewer : (a b : Bool) → (a ≡ true → b ≡ true) → (if a then 1 else 0) ≤ (if b then 1 else 0)
 fewer true b h = subst (λ (x : Bool). 1 ≤ (if x then 1 else 0)) (sym (h refl)) (omega arith)

@@ -16,8 +16,9 @@ use Rattle.mapdb_facts.proofs.States.Joins.{atom_append, atom_left, atom_right, 
 use Rattle.mapdb_facts.proofs.Lists.SameNames.{none_some, same_id_itself}
 use Rattle.mapdb_replica.specs.Clashing.{ClashesAt, IsLeastPassing, SameRecords}
 use Rattle.mapdb_replica.specs.Taking.{lesser_name}
-use Rattle.mapdb_replica.proofs.News.BatchClashes.{apart_false, false_apart, none_name, same_or_apart, some_name}
+use Rattle.mapdb_replica.proofs.News.BatchClashes.{apart_false, false_apart, none_name, some_name}
 use Rattle.mapdb_replica.proofs.News.LeastNames.{least-more, least-same}
+use Rattle.mapdb_facts.proofs.RecordLemmas.SameRecords.{same_or_other}
 
 -- a clash with what is held is a different record of the name
 pub clash_of-to : (S : State) (op : Op) (id : RecordId) → clash_of S op ≡ Some id → (r : Record) × (s : Record) × Gives op (Rec r) × (r.id ≡ id) × (S.record_at id ≡ Some s) × (r ≢ s)
@@ -98,7 +99,7 @@ module _ (held xs : List Op) (S T : State) (sound : IsSound held) (is_held : S �
   seen_told op r s gives k same =
       let found = found_some xs s k in
       let at : (state_of xs).record_at r.id ≡ Some found.0 = subst (λ (x : RecordId). (state_of xs).record_at x ≡ Some found.0) same found.1 in
-      elim (same_or_apart r found.0) [
+      elim (same_or_other r found.0) [
         | inl one ↦ inl (subst (λ (x : Record). HasAtom xs (Rec x)) (sym one) (record_held xs r.id found.0 at).0)
         | inr apart ↦ inr (told op r found.0 gives (inr (is_seen r.id ∙ at)) apart)
       ]

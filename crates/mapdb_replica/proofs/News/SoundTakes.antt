@@ -13,11 +13,12 @@ use Rattle.mapdb_replica.specs.Sound.{NoClashIsSound, TakesAreSound}
 use Rattle.mapdb_replica.specs.Taking.{first_bad, least_clash, taken_unless, too_many}
 use Rattle.mapdb_replica.specs.declared.faults.TakeFault.{TakeFault}
 use Rattle.mapdb_replica.specs.declared.faults.TakeFault.TheVariants.{Clash}
-use Rattle.mapdb_replica.proofs.News.BatchClashes.{least_clash-is, same_or_apart}
+use Rattle.mapdb_replica.proofs.News.BatchClashes.{least_clash-is}
+use Rattle.mapdb_facts.proofs.RecordLemmas.SameRecords.{same_or_other}
 
 -- without a clash all together are sound
 sound_where : (held batch : List Op) → IsSound held → ((id : RecordId) → ClashesAt (held ++ batch) batch id → ⊥) → IsSound (held ++ batch)
-sound_where held batch sound none r s in_r in_s same = by_same (same_or_apart r s)
+sound_where held batch sound none r s in_r in_s same = by_same (same_or_other r s)
   where
     apart_in : (x y : Record) → HasAtom batch (Rec x) → HasAtom (held ++ batch) (Rec y) → x.id ≡ y.id → x ≢ y → ⊥
     apart_in x y here there e apart = none x.id (record { one = x; other = y; in_batch = here; in_all = there; one_named = refl; other_named = sym e; apart = apart })

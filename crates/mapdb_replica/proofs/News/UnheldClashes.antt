@@ -1,5 +1,5 @@
 -- The clashes of a batch are those of what it says that is not held.
-use Rattle.std.proofs.Common.{◌≡◌, ◌∙◌, ◌<◌, ◌≤◌, ◌+◌, ℕ, Bool, true, false, Some, refl, sym, ap, subst, List, [], ◌∷◌, ◌++◌, length, inl, inr, arith}
+use Rattle.std.proofs.Common.{◌≡◌, ◌∙◌, ◌<◌, ◌≤◌, ◌+◌, ℕ, Bool, true, false, Some, sym, ap, subst, List, [], ◌∷◌, ◌++◌, length, inl, inr, arith}
 use Rattle.std.specs.Prelude.{◌⊎◌, Option, None, count_by, nat_lt, not}
 use Rattle.std.specs.List.{filter}
 use Rattle.std.proofs.lemmas.Bool.{and_from, and_parts, cases_Bool, cond-false, cond-true, true≢false}
@@ -23,6 +23,7 @@ use Rattle.mapdb_replica.specs.Taking.{least_clash, too_many}
 use Rattle.mapdb_replica.specs.declared.faults.TakeFault.TheVariants.{Full}
 use Rattle.mapdb_replica.proofs.News.BatchClashes.{least_clash-is}
 use Rattle.mapdb_replica.proofs.News.LeastNames.{least-one, least-same}
+use Rattle.mapdb_facts.proofs.States.Newness.{not_not}
 
 -- what is well-formed stays so where some is left out
 pub formed-filter : (p : Op → Bool) (ops : List Op) → all_formed ops ≡ true → all_formed (filter p ops) ≡ true
@@ -59,11 +60,7 @@ passed_later p op ops r h =
 
 held_is : (o : Option Record) (r : Record) → not (is_held o r) ≡ false → o ≡ Some r
 held_is None r h = absurd (true≢false h)
-held_is (Some s) r h = ap Some (exact_record s r (from (same_record s r) h))
-  where
-    from : (b : Bool) → not b ≡ false → b ≡ true
-    from true e = refl
-    from false e = absurd (true≢false e)
+held_is (Some s) r h = ap Some (exact_record s r (not_not (same_record s r) h))
 
 -- a record that says nothing that is not held, is held
 old_is_held : (S : State) (op : Op) (r : Record) → Gives op (Rec r) → is_new S op ≡ false → S.record_at r.id ≡ Some r

@@ -3,7 +3,7 @@ use Rattle.std.proofs.Common.{◌≡◌, ℕ, ◌<◌, Bool, true, refl, sym, ap
 use Rattle.std.specs.Prelude.{Option, Some, None, filter}
 use Rattle.std.proofs.lemmas.Bool.{cases_Bool, cond-false, cond-true, false≢true, true≢false}
 use Rattle.mapdb_fpage.specs.RightSets.{is_empty}
-use Rattle.mapdb_facts.proofs.RecordLemmas.Ascending.{after_at, ascending_records, before_back, before_same, before_trans, listed_found}
+use Rattle.mapdb_facts.proofs.RecordLemmas.Ascending.{after_at, ascending_records, before_back, before_same, listed_found, after_later}
 use Rattle.mapdb_facts.specs.Names.{is_after, is_before}
 use Rattle.mapdb_facts.specs.Records.{AllAfter, IsAmong, IsAscending, records_of}
 use Rattle.mapdb_facts.specs.State.{State, state_of}
@@ -36,10 +36,6 @@ pub all_later : (hs : List Holder) → later None hs ≡ hs
 all_later [] = refl
 all_later (h ∷ hs) = ap (λ (xs : List Holder). h ∷ xs) (all_later hs)
 
-after_both : (after : Option RecordId) (a b : RecordId) → is_after after a ≡ true → is_before a b ≡ true → is_after after b ≡ true
-after_both None a b h k = refl
-after_both (Some other) a b h k = before_trans other a b h k
-
 -- the later ones are some that come before a holder, the holder, and those that come after it
 record IsSplit (after : Option RecordId) (h : Holder) (hs skipped : List Holder) : Type 0 where
   pub is : later after hs ≡ skipped ++ h ∷ later (Some h.id) hs
@@ -50,7 +46,7 @@ split_here : (after : Option RecordId) (x : Holder) (xs : List Holder) → AllAf
 split_here after x xs all above =
     cond-true (is_after after x.id) (x ∷ later after xs) (later after xs) above
     ∙ ap (λ (ys : List Holder). x ∷ ys)
-    (keep_all (λ (h : Holder). is_after after h.id) xs (λ h k. after_both after x.id h.id above (after_at by_name x.id xs h all k))
+    (keep_all (λ (h : Holder). is_after after h.id) xs (λ h k. after_later after x.id h.id above (after_at by_name x.id xs h all k))
     ∙ sym (cond-false (is_before x.id x.id) (x ∷ later (Some x.id) xs) (later (Some x.id) xs) (before_same x.id)
     ∙ keep_all (λ (h : Holder). is_before x.id h.id) xs (λ h k. after_at by_name x.id xs h all k)))
 

@@ -1,9 +1,8 @@
 -- The listed rights of a page are those that some record of the space has there.
 use Rattle.std.proofs.Common.{◌≡◌, ℕ, ◌<◌, Bool, true, false, Some, refl, sym, ap, subst, ◌∙◌, List, [], ◌∷◌, inl, inr, arith}
 use Rattle.std.specs.Prelude.{◌⊎◌, ◌||◌, ◌==◌, None, Option, filter, map, nat_lt, not, if◌then◌else◌}
-use Rattle.std.proofs.lemmas.Bool.{and_parts, cases_Bool, cond-false, cond-true, eqb-true, false≢true, ltb-true, or_cases}
+use Rattle.std.proofs.lemmas.Bool.{and_parts, cases_Bool, cond-false, cond-true, eqb-true, false≢true, ltb-true, or_cases, or_left, or_right}
 use Rattle.std.proofs.lemmas.Bool.Decides.{nat_tests}
-use Rattle.mapdb_fpage.proofs.Booleans.{or_left_true, or_right_true}
 use Rattle.mapdb_fpage.proofs.RightLemmas.{some_here}
 use Rattle.mapdb_fpage.specs.Place.{whole}
 use Rattle.mapdb_fpage.specs.RightSets.{includes, is_empty, union}
@@ -18,12 +17,11 @@ use Rattle.mapdb_facts.proofs.Lists.SameNames.{same_id_true}
 use Rattle.mapdb_facts.specs.Looking.{Holds}
 use Rattle.mapdb_facts.specs.Names.{is_first_space, is_root, number_limit, root, same_space}
 use Rattle.mapdb_facts.specs.Records.{IsAmong, records_of}
-use Rattle.mapdb_facts.specs.State.{HasAtom, Rec, State, state_of}
-use Rattle.mapdb_facts.specs.WellFormed.{all_formed, is_formed}
+use Rattle.mapdb_facts.specs.State.{State, state_of}
+use Rattle.mapdb_facts.specs.WellFormed.{all_formed}
 use Rattle.mapdb_facts.specs.declared.names.RecordId.{RecordId}
 use Rattle.mapdb_facts.specs.declared.names.Space.{Space}
 use Rattle.mapdb_facts.specs.declared.operations.Op.{Op}
-use Rattle.mapdb_facts.specs.declared.operations.Op.TheVariants.{Born, Closed, Cut}
 use Rattle.mapdb_facts.specs.declared.operations.Record.{Record}
 use Rattle.mapdb_rights.specs.Frame.{frame_at}
 use Rattle.mapdb_rights.specs.PageRights.{is_into, is_record_into, pair_with}
@@ -31,11 +29,9 @@ use Rattle.mapdb_rights.specs.Right.{has_right, rights_at}
 use Rattle.mapdb_replica.specs.Issue.{first_holders, holder_of, holders, record_holders}
 use Rattle.mapdb_replica.specs.Pairs.{AllAbove, IsRising, ListsRight, PageRightsAreListed, Pair, page_rights, holder_pair, pairs_from, with_pair, with_some}
 use Rattle.mapdb_replica.specs.declared.pieces.Holder.{Holder}
-
-includes-union : (a b : Rights) (right : Right) → includes (union a b) right ≡ (includes a right || includes b right)
-includes-union a b Read = refl
-includes-union a b Write = refl
-includes-union a b Execute = refl
+use Rattle.mapdb_replica.proofs.Copies.OpForms.{record_formed}
+use Rattle.mapdb_rights.proofs.Rights.OneFrameRelation.{some_number, none_some}
+use Rattle.mapdb_rights.proofs.Live.FirstRecords.{union_at}
 
 -- a right of a pair
 abbrev pub HasIn : Pair → ℕ → Right → Type 0
@@ -43,14 +39,14 @@ HasIn pair frame right = (pair.0 ≡ frame) × (includes pair.1 right ≡ true)
 
 joined_to : (pair other : Pair) (frame : ℕ) (right : Right) → pair.0 ≡ other.0 → HasIn (other.0, union other.1 pair.1) frame right → HasIn pair frame right ⊎ HasIn other frame right
 joined_to pair other frame right same h =
-    elim (or_cases (includes other.1 right) (includes pair.1 right) (sym (includes-union other.1 pair.1 right) ∙ h.1)) [
+    elim (or_cases (includes other.1 right) (includes pair.1 right) (sym (union_at other.1 pair.1 right) ∙ h.1)) [
       | inl old ↦ inr (h.0, old)
       | inr new ↦ inl (same ∙ h.0, new)
     ]
 
 joined_from : (pair other : Pair) (frame : ℕ) (right : Right) → pair.0 ≡ other.0 → HasIn pair frame right ⊎ HasIn other frame right → HasIn (other.0, union other.1 pair.1) frame right
-joined_from pair other frame right same (inl h) = (sym same ∙ h.0, includes-union other.1 pair.1 right ∙ or_right_true (includes other.1 right) (includes pair.1 right) h.1)
-joined_from pair other frame right same (inr h) = (h.0, includes-union other.1 pair.1 right ∙ or_left_true (includes other.1 right) (includes pair.1 right) h.1)
+joined_from pair other frame right same (inl h) = (sym same ∙ h.0, union_at other.1 pair.1 right ∙ or_right (includes other.1 right) (includes pair.1 right) h.1)
+joined_from pair other frame right same (inr h) = (h.0, union_at other.1 pair.1 right ∙ or_left (includes other.1 right) (includes pair.1 right) h.1)
 
 -- what a list has with a pair more
 listed_by : (pair other : Pair) (rest : List Pair) (frame : ℕ) (right : Right) (a b : Bool) → (pair.0 == other.0) ≡ b
@@ -142,20 +138,14 @@ module _ (S : State) (page : ℕ) where
           ]
 
   some_from : (id : RecordId) (known : List Pair) (frame : ℕ) (right : Right) (o : Option ℕ) → frame_at S id page ≡ o → Gives S page id frame right ⊎ ListsRight known frame right → ListsRight (with_some (pair_with o (rights_at S id page)) known) frame right
-  some_from id known frame right None is (inl gives) = absurd (none_frame frame (sym is ∙ gives.0))
-    where
-      none_frame : (f : ℕ) → None ≡ Some f → ⊥
-      none_frame f e = cc
+  some_from id known frame right None is (inl gives) = absurd (none_some frame (sym is ∙ gives.0))
   some_from id known frame right None is (inr h) = h
   some_from id known frame right (Some f) is h = by (is_empty (rights_at S id page)) refl h
     where
-      same_frame : (a b : ℕ) → Some a ≡ Some b → a ≡ b
-      same_frame a b e = cc
-
       by : (b : Bool) → is_empty (rights_at S id page) ≡ b → Gives S page id frame right ⊎ ListsRight known frame right → ListsRight (with_some (if b then None else Some (f, rights_at S id page)) known) frame right
       by true empty (inl gives) = absurd (false≢true (sym (some_here (rights_at S id page) right (right_in id right ∙ gives.1)) ∙ empty))
       by true empty (inr k) = k
-      by false some (inl gives) = lists_from (f, rights_at S id page) known frame right (inl (same_frame f frame (sym is ∙ gives.0), right_in id right ∙ gives.1))
+      by false some (inl gives) = lists_from (f, rights_at S id page) known frame right (inl (some_number f frame (sym is ∙ gives.0), right_in id right ∙ gives.1))
       by false some (inr k) = lists_from (f, rights_at S id page) known frame right (inr k)
 
   pub some_rising : (id : RecordId) (known : List Pair) (o : Option ℕ) → IsRising known → IsRising (with_some (pair_with o (rights_at S id page)) known)
@@ -197,17 +187,9 @@ module _ (S : State) (page : ℕ) where
   from_rising [] known rising = rising
   from_rising (x ∷ xs) known rising = from_rising xs (with_some (holder_pair S page x.id) known) (some_rising x.id known (frame_at S x.id page) rising)
 
--- The holders of a space are the names into it.
-formed_atom : (ops : List Op) (r : Record) → all_formed ops ≡ true → HasAtom ops (Rec r) → is_formed (Born r) ≡ true
-formed_atom [] r all h = absurd h
-formed_atom (Born s ∷ ops) r all (inl e) = subst (λ (x : Record). is_formed (Born x) ≡ true) e (and_parts (is_formed (Born s)) (all_formed ops) all).0
-formed_atom (Cut cut ∷ ops) r all (inl e) = absurd e
-formed_atom (Closed space ∷ ops) r all (inl e) = absurd e
-formed_atom (op ∷ ops) r all (inr later) = formed_atom ops r (and_parts (is_formed op) (all_formed ops) all).1 later
-
 pub not_root : (ops : List Op) (r : Record) → all_formed ops ≡ true → Holds (state_of ops) r → is_root r.id ≡ false
 not_root ops r all held =
-    let formed = formed_record r (formed_atom ops r all (record_held ops r.id r held).0) in
+    let formed = formed_record r (record_formed ops r all (record_held ops r.id r held).0) in
     let number = (and_parts (nat_lt 0 r.id.number) (nat_lt r.id.number number_limit) formed.has_number).0 in
     other r.id number
   where

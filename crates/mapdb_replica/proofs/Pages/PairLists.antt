@@ -1,21 +1,12 @@
 -- Lists of frames with their rights.
-use Rattle.std.proofs.Common.{◌≡◌, ℕ, zero, suc, ◌+◌, ◌<◌, ◌≤◌, Bool, true, false, refl, sym, ap, ◌∙◌, List, [], ◌∷◌, ◌++◌, append_assoc, drop, get_or, length, length-drop, set, take, arith}
-use Rattle.std.specs.Prelude.{◌==◌, None, filter, map, nat_lt, if◌then◌else◌}
+use Rattle.std.proofs.Common.{◌≡◌, ℕ, zero, suc, ◌+◌, ◌<◌, ◌≤◌, refl, sym, ap, ◌∙◌, List, [], ◌∷◌, ◌++◌, append_assoc, drop, get_or, length, length-drop, set, take, arith}
+use Rattle.std.specs.Prelude.{◌==◌, nat_lt, if◌then◌else◌}
 use Rattle.std.proofs.lemmas.Bool.{cond-false, cond-true, eq-eqb}
 use Rattle.std.proofs.lemmas.Bool.Decides.{nat_tests}
 use Rattle.std.proofs.lemmas.List.{drop-set, drop_more, take-append-drop, take-set, take_more}
-use Rattle.mapdb_fpage.specs.Place.{whole}
 use Rattle.mapdb_fpage.specs.RightSets.{union}
 use Rattle.mapdb_fpage.specs.declared.right_sets.Rights.{Rights}
-use Rattle.mapdb_facts.specs.Names.{is_first_space, root, same_space}
-use Rattle.mapdb_facts.specs.Records.{behind}
-use Rattle.mapdb_facts.specs.State.{State}
-use Rattle.mapdb_facts.specs.declared.names.Space.{Space}
-use Rattle.mapdb_facts.specs.declared.operations.Record.{Record}
-use Rattle.mapdb_replica.specs.Issue.{first_holders, holder_of, holders, record_holders}
-use Rattle.mapdb_replica.specs.Pairs.{Pair, holder_pair, pairs_from, with_pair, with_some}
-use Rattle.mapdb_replica.specs.declared.pieces.Holder.{Holder}
-use Rattle.mapdb_facts.proofs.RecordLemmas.AllRecords.{behind_none}
+use Rattle.mapdb_replica.specs.Pairs.{Pair, with_pair}
 
 with_pair-lower : (pair other : Pair) (rest : List Pair) → other.0 < pair.0 → with_pair pair (other ∷ rest) ≡ other ∷ with_pair pair rest
 with_pair-lower pair other rest less =
@@ -69,42 +60,3 @@ first-behind pairs i d pair rest within is = let e : get_or pairs i d ∷ drop (
 
 pub nothing-behind : (pairs : List Pair) (i : ℕ) (pair : Pair) (rest : List Pair) → length pairs ≤ i → drop i pairs ≡ pair ∷ rest → ⊥
 nothing-behind pairs i pair rest end is = let e : length (drop i pairs) ≡ suc (length rest) = ap length is in omega (arith, e, length-drop i pairs)
-
--- The pairs of a space, one holder after the other.
-module _ (S : State) (page : ℕ) (space : Space) where
-  pairs_from-append : (known : List Pair) (xs ys : List Holder) → pairs_from S page known (xs ++ ys) ≡ pairs_from S page (pairs_from S page known xs) ys
-  unfolding pairs_from
-  pairs_from-append known [] ys = refl
-  pairs_from-append known (x ∷ xs) ys = pairs_from-append (with_some (holder_pair S page x.id) known) xs ys
-
-  -- with the root's pair, where the space is the first
-  first_pairs : (b : Bool) → pairs_from S page [] (if b then record { id = root; place = whole } ∷ [] else []) ≡ (if b then with_some (holder_pair S page root) [] else [])
-  unfolding pairs_from
-  first_pairs true = refl
-  first_pairs false = refl
-
-  pub pairs-start : (records : List Record) (known : List Pair) → known ≡ (if is_first_space space then with_some (holder_pair S page root) [] else [])
-      → pairs_from S page known (record_holders space (behind None records)) ≡ pairs_from S page [] (holders records space)
-  pairs-start records known is =
-      ap (λ (rs : List Record). pairs_from S page known (record_holders space rs)) (behind_none records)
-      ∙ ap (λ (ps : List Pair). pairs_from S page ps (record_holders space records)) (is ∙ sym (first_pairs (is_first_space space)))
-      ∙ sym (pairs_from-append [] (first_holders space) (record_holders space records))
-
-  pairs-step : (r : Record) (later : List Record) (known : List Pair) (b : Bool) →
-      pairs_from S page known (map holder_of (if b then r ∷ filter (λ (s : Record). same_space s.space space) later else filter (λ (s : Record). same_space s.space space) later))
-      ≡ pairs_from S page (if b then with_some (holder_pair S page r.id) known else known) (record_holders space later)
-  unfolding pairs_from
-  pairs-step r later known true = refl
-  pairs-step r later known false = refl
-
-  pub pairs-next : (rest later : List Record) (r : Record) (known next total : List Pair) → rest ≡ r ∷ later → next ≡ (if same_space r.space space then with_some (holder_pair S page r.id) known else known)
-      → pairs_from S page known (record_holders space rest) ≡ total → pairs_from S page next (record_holders space later) ≡ total
-  pairs-next rest later r known next total is step so_far =
-      ap (λ (ps : List Pair). pairs_from S page ps (record_holders space later)) step
-      ∙ sym (pairs-step r later known (same_space r.space space))
-      ∙ sym (ap (λ (rs : List Record). pairs_from S page known (record_holders space rs)) is)
-      ∙ so_far
-
-  pub pairs-end : (rest : List Record) (known total : List Pair) → rest ≡ [] → pairs_from S page known (record_holders space rest) ≡ total → known ≡ total
-  unfolding pairs_from
-  pairs-end rest known total is so_far = sym (ap (λ (rs : List Record). pairs_from S page known (record_holders space rs)) is) ∙ so_far

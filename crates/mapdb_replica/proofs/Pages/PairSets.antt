@@ -20,6 +20,7 @@ use Rattle.mapdb_rights.specs.Right.{rights_at}
 use Rattle.mapdb_replica.specs.Pairs.{AllAbove, AreByFrame, HaveRights, IsRising, ListsRight, Pair, page_rights, with_pair}
 use Rattle.mapdb_replica.proofs.Pages.PairLaws.{HasIn, listed_to, lists_from, page_rights_are_listed, right_in, rising-with}
 use Rattle.mapdb_replica.proofs.Pages.ServedAlone.{same_sets}
+use Rattle.mapdb_rights.proofs.Rights.OneFrameRelation.{some_number}
 
 -- ---- two lists whose frames rise, with the same rights under each frame, are one
 
@@ -185,10 +186,7 @@ module _ (S : State) (space : Space) (page : ℕ) (pairs : List Pair) (are : Are
       let own = are.all h.0 live in
       let parts = pair_parts (frame_at S h.0 page) (rights_at S h.0 page) own.pair own.is in
       among_listed pairs own.pair frame right own.among
-      (same_frame own.pair.0 frame (sym parts.frame_is ∙ h.3), ap (λ (r : Rights). includes r right) (sym parts.rights_are) ∙ has)
-    where
-      same_frame : (a b : ℕ) → Some a ≡ Some b → a ≡ b
-      same_frame a b e = cc
+      (some_number own.pair.0 frame (sym parts.frame_is ∙ h.3), ap (λ (r : Rights). includes r right) (sym parts.rights_are) ∙ has)
 
   -- they have the rights of the page
   pub shown_rights : (frame : ℕ) (right : Right) → ListsRight pairs frame right ↔ HasPair S space page frame right

@@ -1,5 +1,5 @@
 -- A page is served from one frame alone, with the same rights of it.
-use Rattle.std.proofs.Common.{◌≡◌, ℕ, Bool, true, false, List, Some, refl, sym, ap, subst, ◌∙◌, arith}
+use Rattle.std.proofs.Common.{◌≡◌, ℕ, true, false, List, Some, refl, sym, ap, subst, ◌∙◌, arith}
 use Rattle.std.specs.Prelude.{None, Option}
 use Rattle.std.proofs.lemmas.Bool.{true≢false}
 use Rattle.std.proofs.lemmas.Bool.Decides.{nat_tests}
@@ -19,6 +19,8 @@ use Rattle.mapdb_rights.specs.Served.{IsServed}
 use Rattle.mapdb_replica.specs.Pairs.{Pair}
 use Rattle.mapdb_replica.specs.Served.{served}
 use Rattle.mapdb_replica.proofs.Pages.ServedLaws.{page_is_served}
+use Rattle.mapdb_rights.proofs.Rights.OneFrameRelation.{some_number}
+use Rattle.mapdb_fpage.proofs.Booleans.{same_test}
 
 -- two names, neither of which comes before the other, are one
 neither_before : (a b : RecordId) → is_before a b ≡ false → is_before b a ≡ false → a ≡ b
@@ -30,18 +32,12 @@ neither_before a b h k = λ i. record { number = number i; processor = processor
     processor : a.processor ≡ b.processor
     processor = grind (arith, nat_tests)
 
--- sets with the same rights are one
-same_tests : (x y : Bool) → (x ≡ true → y ≡ true) → (y ≡ true → x ≡ true) → x ≡ y
-same_tests true y to from = sym (to refl)
-same_tests false true to from = from refl
-same_tests false false to from = refl
-
 pub same_sets : (a b : Rights) → ((right : Right) → includes a right ≡ true → includes b right ≡ true)
     → ((right : Right) → includes b right ≡ true → includes a right ≡ true) → a ≡ b
 same_sets a b to from = λ i. record {
-  read = same_tests a.read b.read (to Read) (from Read) i;
-  write = same_tests a.write b.write (to Write) (from Write) i;
-  execute = same_tests a.execute b.execute (to Execute) (from Execute) i;
+  read = same_test a.read b.read (to Read) (from Read) i;
+  write = same_test a.write b.write (to Write) (from Write) i;
+  execute = same_test a.execute b.execute (to Execute) (from Execute) i;
 }
 
 module _ (S : State) (space : Space) (page : ℕ) where
@@ -51,14 +47,11 @@ module _ (S : State) (space : Space) (page : ℕ) where
   one_served (Some a) None h k = absurd (true≢false (sym (k h.0 h.1.into) ∙ h.1.has_some))
   one_served (Some a) (Some b) h k =
       let name : h.0 ≡ k.0 = neither_before h.0 k.0 (k.1.least h.0 h.1.into h.1.has_some) (h.1.least k.0 k.1.into k.1.has_some) in
-      let frame : a.0 ≡ b.0 = same_frame a.0 b.0 (sym h.2 ∙ ap (λ (id : RecordId). frame_at S id page) name ∙ k.2) in
+      let frame : a.0 ≡ b.0 = some_number a.0 b.0 (sym h.2 ∙ ap (λ (id : RecordId). frame_at S id page) name ∙ k.2) in
       let rights : a.1 ≡ b.1 = same_sets a.1 b.1
       (λ right has. (k.3 right).1 (subst (λ (f : ℕ). HasPair S space page f right) frame ((h.3 right).0 has)))
       (λ right has. (h.3 right).1 (subst (λ (f : ℕ). HasPair S space page f right) (sym frame) ((k.3 right).0 has))) in
       λ i. Some (frame i, rights i)
-    where
-      same_frame : (f g : ℕ) → Some f ≡ Some g → f ≡ g
-      same_frame f g e = cc
 
 -- what the index tells is what the page is served from
 pub served_is : (ops : List Op) (space : Space) (page : ℕ) → all_formed ops ≡ true → (found : Option Pair) → IsServed (state_of ops) space page found → found ≡ served ops space page

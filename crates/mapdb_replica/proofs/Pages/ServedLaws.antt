@@ -3,13 +3,12 @@ use Rattle.std.proofs.Common.{◌≡◌, ℕ, Bool, true, false, Some, refl, sym
 use Rattle.std.specs.Prelude.{◌⊎◌, ◌↔◌, ◌==◌, None, Option, filter, map, slice_get, if◌then◌else◌}
 use Rattle.std.specs.List.{cons_option}
 use Rattle.std.proofs.lemmas.Bool.{cases_Bool, cond-false, eq-eqb, eqb-true, false≢true}
-use Rattle.std.proofs.lemmas.Bool.Decides.{nat_tests}
 use Rattle.mapdb_fpage.specs.Place.{whole}
 use Rattle.mapdb_fpage.specs.RightSets.{includes, is_empty}
 use Rattle.mapdb_fpage.specs.declared.right_sets.Right.{Right}
 use Rattle.mapdb_fpage.specs.declared.right_sets.Right.TheVariants.{Execute, Read, Write}
 use Rattle.mapdb_fpage.specs.declared.right_sets.Rights.{Rights}
-use Rattle.mapdb_facts.proofs.RecordLemmas.Ascending.{after_at, after_from, ascending_records, by_id, listed_found, root_before}
+use Rattle.mapdb_facts.proofs.RecordLemmas.Ascending.{after_at, after_from, ascending_records, by_id, listed_found, root_before, before_back, before_same}
 use Rattle.mapdb_facts.specs.Names.{is_before, is_first_space, root, same_space}
 use Rattle.mapdb_facts.specs.Records.{IsAmong, IsAscending, records_of}
 use Rattle.mapdb_facts.specs.State.{State, state_of}
@@ -28,6 +27,7 @@ use Rattle.mapdb_replica.specs.Pairs.{AllAbove, IsRising, ListsRight, Pair, page
 use Rattle.mapdb_replica.specs.Served.{PageIsServed, listed_under, holder_pairs, served, with_listed}
 use Rattle.mapdb_replica.specs.declared.pieces.Holder.{Holder}
 use Rattle.mapdb_replica.proofs.Pages.PairLaws.{holder_into, into_from, into_to, not_root, page_rights_are_listed, right_in}
+use Rattle.mapdb_fpage.proofs.RightLemmas.{some_of}
 
 -- The rights that are listed under a frame.
 above_unlisted : (frame : ℕ) (pairs : List Pair) (right : Right) → AllAbove frame pairs → ListsRight pairs frame right → ⊥
@@ -57,24 +57,8 @@ listed_right [] frame right rising = (λ h. false_right right h, λ h. absurd h)
     false_right Execute h = false≢true h
 listed_right (pair ∷ rest) frame right rising = listed_by pair rest frame right (pair.0 == frame) refl rising.1 (listed_right rest frame right rising.2)
 
--- What a record has at a page.
-some_right : (rights : Rights) → is_empty rights ≡ false → (right : Right) × (includes rights right ≡ true)
-some_right rights some = by rights.read rights.write rights.execute refl refl refl some
-  where
-    by : (r w x : Bool) → rights.read ≡ r → rights.write ≡ w → rights.execute ≡ x → is_empty (record { read = r; write = w; execute = x }) ≡ false → (right : Right) × (includes rights right ≡ true)
-    by true w x is_r is_w is_x h = (Read, is_r)
-    by false true x is_r is_w is_x h = (Write, is_w)
-    by false false true is_r is_w is_x h = (Execute, is_x)
-    by false false false is_r is_w is_x h = absurd (false≢true (sym h))
-
 abbrev by_holder : Holder → RecordId
 by_holder h = h.id
-
-before_same : (a : RecordId) → is_before a a ≡ false
-before_same a = grind (arith, nat_tests)
-
-before_back : (a b : RecordId) → is_before a b ≡ true → is_before b a ≡ false
-before_back a b h = grind (arith, nat_tests)
 
 -- the first holder that has anything: each one before it has nothing
 record IsFirst (S : State) (page : ℕ) (hs : List Holder) (first : Pair) (h : Holder) : Type 0 where
@@ -84,7 +68,7 @@ record IsFirst (S : State) (page : ℕ) (hs : List Holder) (first : Pair) (h : H
 
 module _ (S : State) (page : ℕ) where
   some_frame : (id : RecordId) → is_empty (rights_at S id page) ≡ false → (frame : ℕ) × (frame_at S id page ≡ Some frame)
-  some_frame id some = let found = some_right (rights_at S id page) some in frame_at-right S id page found.0 (sym (right_in S page id found.0) ∙ found.1)
+  some_frame id some = let found = some_of (rights_at S id page) some in frame_at-right S id page found.0 (sym (right_in S page id found.0) ∙ found.1)
 
   -- nothing is had where there are no rights
   pair_none : (id : RecordId) → holder_pair S page id ≡ None → is_empty (rights_at S id page) ≡ true

@@ -1,6 +1,5 @@
 -- What a page is served from, found one holder after the other.
-use Rattle.std.proofs.Common.{◌≡◌, ℕ, suc, ◌+◌, ◌<◌, ◌≤◌, Bool, true, false, refl, sym, ap, ◌∙◌, List, [], ◌∷◌, ◌++◌, length, get_or, drop, drop-cons, add-one, arith}
-use Rattle.std.proofs.lemmas.List.{at_drop_all}
+use Rattle.std.proofs.Common.{◌≡◌, ℕ, suc, ◌+◌, ◌<◌, Bool, true, false, refl, sym, ap, ◌∙◌, List, [], ◌∷◌, ◌++◌, length, get_or, drop, drop-cons, add-one, arith}
 use Rattle.std.specs.Prelude.{◌==◌, None, Option, Some, filter, map, nat_lt, slice_get, if◌then◌else◌}
 use Rattle.std.specs.List.{cons_option}
 use Rattle.std.proofs.lemmas.Bool.{cond-false, cond-true, eq-eqb, eqb-true, false≢true}
@@ -103,12 +102,6 @@ module _ (S : State) (page : ℕ) where
       ∙ sym (ap (λ (xs : List Holder). first_from S page found xs) front)
       ∙ so_far
 
-  pub held-end : (hs : List Holder) (i : ℕ) (found : Option Pair) → length hs ≤ i → first_from S page found (drop i hs) ≡ first_from S page None hs
-      → found ≡ with_listed (slice_get (holder_pairs S page hs) 0) (pairs_from S page [] hs)
-  unfolding first_from
-  held-end hs i found le so_far =
-      sym (at_drop_all (λ (xs : List Holder). first_from S page found xs) hs i le) ∙ so_far ∙ found_all hs
-
   first_append : (found : Option Pair) (xs ys : List Holder) → first_from S page found (xs ++ ys) ≡ first_from S page (first_from S page found xs) ys
   unfolding first_from
   first_append found [] ys = refl
@@ -143,7 +136,3 @@ module _ (S : State) (page : ℕ) (space : Space) where
       ∙ sym (found-step r later found (same_space r.space space))
       ∙ sym (ap (λ (rs : List Record). first_from S page found (record_holders space rs)) is)
       ∙ so_far
-
-  pub found-end : (rest : List Record) (found total : Option Pair) → rest ≡ [] → first_from S page found (record_holders space rest) ≡ total → found ≡ total
-  unfolding first_from
-  found-end rest found total is so_far = sym (ap (λ (rs : List Record). first_from S page found (record_holders space rs)) is) ∙ so_far

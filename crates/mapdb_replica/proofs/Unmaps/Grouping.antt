@@ -9,15 +9,11 @@ use Rattle.mapdb_facts.specs.declared.names.RecordId.{RecordId}
 use Rattle.mapdb_facts.proofs.Lists.SameNames.{same_id_itself, same_id_true}
 use Rattle.mapdb_replica.specs.Revoking.{InTurn, NoneBefore, is_in_turn}
 use Rattle.mapdb_replica.specs.declared.losses.Loss.{Loss}
-
-before_itself : (a : RecordId) → is_before a a ≡ false
-before_itself a = grind (arith, nat_tests)
+use Rattle.mapdb_facts.proofs.RecordLemmas.Ascending.{before_back, before_same}
+use Rattle.mapdb_replica.proofs.News.LeastNames.{not_apart, not_through}
 
 not_same : (a b : RecordId) → is_before b a ≡ true → same_id a b ≡ false
 not_same a b h = grind (arith, nat_tests)
-
-not_before : (a b c : RecordId) → is_before b a ≡ false → is_before c b ≡ false → is_before c a ≡ false
-not_before a b c h k = grind (arith, nat_tests)
 
 before_not : (a b c : RecordId) → is_before a b ≡ true → is_before c b ≡ false → same_id c a ≡ false
 before_not a b c h k = grind (arith, nat_tests)
@@ -45,7 +41,7 @@ tail_same x y xs ys e = cc
 pub turns_apart : (x y : Loss) (xs ys : List Loss) → NoneBefore y.holder ys → is_before x.holder y.holder ≡ true → filter (is_in_turn x.holder) (x ∷ xs) ≡ filter (is_in_turn x.holder) (y ∷ ys) → ⊥
 turns_apart x y xs ys after first same =
     nil_cons x (filter (is_in_turn x.holder) xs)
-    (sym (none_in_turn x.holder y.holder (y ∷ ys) first (before_itself y.holder, after)) ∙ sym same ∙ turn_of x xs)
+    (sym (none_in_turn x.holder y.holder (y ∷ ys) first (before_same y.holder, after)) ∙ sym same ∙ turn_of x xs)
 
 tails : (x : Loss) (xs ys : List Loss) → ((id : RecordId) → filter (is_in_turn id) (x ∷ xs) ≡ filter (is_in_turn id) (x ∷ ys)) → (id : RecordId) → filter (is_in_turn id) xs ≡ filter (is_in_turn id) ys
 tails x xs ys same id = by (is_in_turn id x) refl (same id)
@@ -76,13 +72,10 @@ one_order (x ∷ xs) (y ∷ ys) up up' same = by (is_before x.holder y.holder) (
     by true b first other later = absurd (turns_apart x y xs ys up'.0 first (same x.holder))
     by false true other first later = absurd (turns_apart y x ys xs up.0 first (sym (same y.holder)))
     by false false no_first no_other later =
-        let head : x ≡ y = heads x y xs ys (both x.holder y.holder no_first no_other) (same x.holder) in
+        let head : x ≡ y = heads x y xs ys (not_apart x.holder y.holder no_first no_other) (same x.holder) in
         let all : (id : RecordId) → filter (is_in_turn id) xs ≡ filter (is_in_turn id) ys =
         tails x xs ys (λ id. same id ∙ ap (λ (z : Loss). filter (is_in_turn id) (z ∷ ys)) (sym head)) in
         ap (λ (z : Loss). z ∷ xs) head ∙ ap (λ (zs : List Loss). y ∷ zs) (later all)
-      where
-        both : (a b : RecordId) → is_before a b ≡ false → is_before b a ≡ false → same_id a b ≡ true
-        both a b h k = grind (arith, nat_tests)
 
 -- a loss more, before those of its turn
 unfoldable place : Loss → List Loss → List Loss
@@ -129,10 +122,7 @@ none_placed id loss (x ∷ xs) one none = none_step id loss x xs (is_before x.ho
 
 pub none_lower : (a b : RecordId) (xs : List Loss) → is_before b a ≡ false → NoneBefore b xs → NoneBefore a xs
 none_lower a b [] h none = tt
-none_lower a b (x ∷ xs) h none = (not_before a b x.holder h none.0, none_lower a b xs h none.1)
-
-before_back : (a b : RecordId) → is_before a b ≡ true → is_before b a ≡ false
-before_back a b h = grind (arith, nat_tests)
+none_lower a b (x ∷ xs) h none = (not_through a b x.holder h none.0, none_lower a b xs h none.1)
 
 up_step : (loss x : Loss) (xs : List Loss) (b : Bool) → is_before x.holder loss.holder ≡ b → InTurn (x ∷ xs) → InTurn (place loss xs) → InTurn (if b then x ∷ place loss xs else loss ∷ x ∷ xs)
 up_step loss x xs true first up later = (none_placed x.holder loss xs (before_back x.holder loss.holder first) up.0, later)

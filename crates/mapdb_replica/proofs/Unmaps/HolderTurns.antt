@@ -1,9 +1,8 @@
 -- The candidates of an Unmap, holder by holder, are what each record loses, in turns.
-use Rattle.std.proofs.Common.{◌≡◌, ◌+◌, Bool, true, false, Some, refl, sym, ap, subst, ◌∙◌, List, [], ◌∷◌, ◌++◌, append-nil, arith}
+use Rattle.std.proofs.Common.{◌≡◌, ◌+◌, Bool, true, false, Some, refl, sym, ap, subst, ◌∙◌, List, [], ◌∷◌, ◌++◌, append-nil}
 use Rattle.std.specs.Prelude.{Option, None, cond, count_by, filter, map, if◌then◌else◌}
 use Rattle.std.specs.List.{flat_map}
 use Rattle.std.proofs.lemmas.Bool.{cond-false, cond-true}
-use Rattle.std.proofs.lemmas.Bool.Decides.{nat_tests}
 use Rattle.std.proofs.lemmas.List.Elements.{filter-append}
 use Rattle.std.proofs.lemmas.List.Sums.{sum_by-cons}
 use Rattle.mapdb_facts.specs.Names.{is_before, same_id}
@@ -15,6 +14,7 @@ use Rattle.mapdb_replica.specs.Revoking.{InTurn, NoneBefore, find_holder, is_in_
 use Rattle.mapdb_replica.specs.declared.losses.Loss.{Loss}
 use Rattle.mapdb_replica.specs.declared.pieces.Holder.{Holder}
 use Rattle.mapdb_replica.proofs.Maps.HolderNames.{by_name, found-none}
+use Rattle.mapdb_facts.proofs.RecordLemmas.Ascending.{before_same, before_back}
 
 -- an operation in the turn of a holder
 abbrev pub in_turn : RecordId → Op → Loss
@@ -52,19 +52,13 @@ turn_other id name (op ∷ ops) apart =
     cond-false (same_id name id) (in_turn name op ∷ filter (is_in_turn id) (map (in_turn name) ops)) (filter (is_in_turn id) (map (in_turn name) ops)) apart
     ∙ turn_other id name ops apart
 
-before_back : (a b : RecordId) → is_before a b ≡ true → is_before b a ≡ false
-before_back a b h = grind (arith, nat_tests)
-
-before_itself : (a : RecordId) → is_before a a ≡ false
-before_itself a = grind (arith, nat_tests)
-
 none_append : (id : RecordId) (xs ys : List Loss) → NoneBefore id xs → NoneBefore id ys → NoneBefore id (xs ++ ys)
 none_append id [] ys h k = k
 none_append id (x ∷ xs) ys h k = (h.0, none_append id xs ys h.1 k)
 
 none_here : (id : RecordId) (ops : List Op) → NoneBefore id (map (in_turn id) ops)
 none_here id [] = tt
-none_here id (op ∷ ops) = (before_itself id, none_here id ops)
+none_here id (op ∷ ops) = (before_same id, none_here id ops)
 
 none_behind : (id name : RecordId) (ops : List Op) → is_before id name ≡ true → NoneBefore id (map (in_turn name) ops)
 none_behind id name [] h = tt

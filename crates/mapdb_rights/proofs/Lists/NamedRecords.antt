@@ -6,13 +6,13 @@ use Rattle.std.specs.List.Sorted.{IsPermutation, IsSorted, IsStrictlySortedBy}
 use Rattle.std.specs.BTreeMap.{is_at}
 use Rattle.std.specs.declared.cmp.Ordering.TheVariants.{Less}
 use Rattle.std.proofs.Math.Seq.{drop-cons}
-use Rattle.std.proofs.lemmas.Bool.{and_from, and_parts, cases_Bool, cond-true, false≢true}
+use Rattle.std.proofs.lemmas.Bool.{and_from, and_parts, cases_Bool, cond-true, false≢true, or_right}
 use Rattle.std.proofs.lemmas.List.Elements.{All-from_recursion}
 use Rattle.std.proofs.lemmas.List.Kept.{IsStrictlySortedBy-dedup}
 use Rattle.std.proofs.lemmas.List.Sorted.{list_any-IsPermutation}
 use Rattle.std.proofs.lemmas.Map.Keys.{sorted_head, sorted_tail}
 use Rattle.mapdb_facts.proofs.RecordLemmas.Ascending.{after_at, after_from, among_find, ascending_records, by_id, find_among}
-use Rattle.mapdb_facts.proofs.Lists.Comparing.{exact_ids, id_at}
+use Rattle.mapdb_facts.proofs.Lists.Comparing.{exact_ids, id_at, before_from}
 use Rattle.mapdb_facts.proofs.RecordLemmas.Listed.{find_listed}
 use Rattle.mapdb_facts.proofs.Lists.SameLists.{same_lists}
 use Rattle.mapdb_facts.proofs.Lists.SameNames.{none_some, same_id_itself, same_id_true, some_same}
@@ -31,7 +31,6 @@ use Rattle.mapdb_rights.specs.AllBut.{IsAllBut}
 use Rattle.mapdb_rights.specs.Meeting.{is_named, record_if}
 use Rattle.mapdb_rights.proofs.Lists.AllBut.{all_but_failing}
 use Rattle.mapdb_rights.proofs.Lists.Passing.{among_filter, ascending_filter, filter_among}
-use Rattle.mapdb_rights.proofs.Places.PlaceNames.{before_of}
 
 -- ---- names
 
@@ -40,7 +39,7 @@ itself id = id
 
 after_keys : (id : RecordId) (names : List RecordId) → AllByRecursion (λ other. id_cmp id other ≡ Less) names → AllAfter itself id names
 after_keys id [] h = tt
-after_keys id (other ∷ names) h = (before_of id other h.0, after_keys id names h.1)
+after_keys id (other ∷ names) h = (before_from id other h.0, after_keys id names h.1)
 
 -- the keys of a set of names ascend
 pub ascending_keys : (names : List RecordId) → IsStrictlySortedBy id_cmp names → IsAscending itself names
@@ -169,11 +168,7 @@ pub named_among : (id : RecordId) (names : List RecordId) → IsAmong id names �
 named_among id [] k = absurd k
 named_among id (other ∷ names) (inl e) =
     ap (λ (b : Bool). b || is_named names id) (id_at id other ∙ ap (λ (o : RecordId). same_id id o) e ∙ same_id_itself id)
-named_among id (other ∷ names) (inr k) = or_later (is_at (id_cmp id) other) (is_named names id) (named_among id names k)
-  where
-    or_later : (a b : Bool) → b ≡ true → (a || b) ≡ true
-    or_later true b h = refl
-    or_later false b h = h
+named_among id (other ∷ names) (inr k) = or_right (is_at (id_cmp id) other) (is_named names id) (named_among id names k)
 
 -- what is named among some is named among more
 pub named_front : (id : RecordId) (names more : List RecordId) → is_named names id ≡ true → is_named (names ++ more) id ≡ true
@@ -186,11 +181,7 @@ named_front id (other ∷ names) more h = or_both (is_at (id_cmp id) other) (is_
 
 pub named_last : (id : RecordId) (names : List RecordId) (last : RecordId) → last ≡ id → is_named (names ++ last ∷ []) id ≡ true
 named_last id [] last e = named_among id (last ∷ []) (inl e)
-named_last id (other ∷ names) last e = or_later (is_at (id_cmp id) other) (is_named (names ++ last ∷ []) id) (named_last id names last e)
-  where
-    or_later : (a b : Bool) → b ≡ true → (a || b) ≡ true
-    or_later true b h = refl
-    or_later false b h = h
+named_last id (other ∷ names) last e = or_right (is_at (id_cmp id) other) (is_named (names ++ last ∷ []) id) (named_last id names last e)
 
 -- nothing is named behind the last
 pub none_from : (names : List RecordId) (i : ℕ) (id : RecordId) → length names ≤ i → is_named (drop i names) id ≡ true → ⊥

@@ -1,7 +1,7 @@
 -- The first record of those that were found to have a right at a page, with one more.
 use Rattle.std.proofs.Common.{◌≡◌, ℕ, Bool, true, false, refl, sym, ◌∙◌, inl, inr}
 use Rattle.std.specs.Prelude.{◌⊎◌, ◌==◌, ◌||◌, if◌then◌else◌}
-use Rattle.std.proofs.lemmas.Bool.{cases_Bool, eqb-true, false≢true, true≢false}
+use Rattle.std.proofs.lemmas.Bool.{cases_Bool, eqb-true, false≢true, or_left, or_right, true≢false}
 use Rattle.mapdb_fpage.specs.RightSets.{includes, union}
 use Rattle.mapdb_fpage.specs.declared.right_sets.Right.{Right}
 use Rattle.mapdb_fpage.specs.declared.right_sets.Right.TheVariants.{Execute, Read, Write}
@@ -21,22 +21,14 @@ use Rattle.mapdb_rights.specs.declared.index.first_records.First.TheVariants.{Al
 
 -- ---- rights of either set
 
-union_at : (a b : Rights) (right : Right) → includes (union a b) right ≡ (includes a right || includes b right)
+pub union_at : (a b : Rights) (right : Right) → includes (union a b) right ≡ (includes a right || includes b right)
 union_at a b Read = refl
 union_at a b Write = refl
 union_at a b Execute = refl
 
-either : (x y : Bool) → (x || y) ≡ true → (x ≡ true) ⊎ (y ≡ true)
+pub either : (x y : Bool) → (x || y) ≡ true → (x ≡ true) ⊎ (y ≡ true)
 either true y h = inl refl
 either false y h = inr h
-
-or_left : (x y : Bool) → x ≡ true → (x || y) ≡ true
-or_left true y h = refl
-or_left false y h = absurd (false≢true h)
-
-or_right : (x y : Bool) → y ≡ true → (x || y) ≡ true
-or_right true y h = refl
-or_right false y h = h
 
 pub of_either : (a b : Rights) (right : Right) → includes (union a b) right ≡ true → (includes a right ≡ true) ⊎ (includes b right ≡ true)
 of_either a b right h = either (includes a right) (includes b right) (sym (union_at a b right) ∙ h)

@@ -4,7 +4,7 @@ use Rattle.std.specs.Prelude.{◌&&◌, not, Option, None, filter, map, if◌the
 use Rattle.std.proofs.lemmas.Bool.{and_from, and_parts, cases_Bool, cond-true, false≢true, true≢false}
 use Rattle.mapdb_fpage.specs.RightSets.{is_empty}
 use Rattle.mapdb_facts.proofs.Lists.Among.{among_append, among_left, among_right}
-use Rattle.mapdb_facts.proofs.RecordLemmas.Ascending.{after_from, among_find, ascending_records, before_else, by_id, find_among, root_before}
+use Rattle.mapdb_facts.proofs.RecordLemmas.Ascending.{after_from, among_find, ascending_records, before_else, by_id, find_among, root_before, after_later}
 use Rattle.mapdb_facts.proofs.RecordLemmas.Listed.{find_listed}
 use Rattle.mapdb_facts.proofs.Lists.SameLists.{same_lists}
 use Rattle.mapdb_facts.proofs.Lists.SameNames.{same_id_true}
@@ -23,9 +23,10 @@ use Rattle.mapdb_facts.specs.declared.operations.Record.{Record}
 use Rattle.mapdb_rights.specs.Live.{IsLive, IsLiveFrom, IsNextLive, is_live_record, live_names}
 use Rattle.mapdb_rights.specs.PageRights.{is_record_into}
 use Rattle.mapdb_rights.specs.Right.{rights_at}
-use Rattle.mapdb_rights.proofs.Live.LiveRecords.{after_both, held_into, into_held, no_root}
+use Rattle.mapdb_rights.proofs.Live.LiveRecords.{held_into, into_held, not_root}
 use Rattle.mapdb_rights.proofs.Lists.NamedRecords.{itself}
 use Rattle.mapdb_rights.proofs.Lists.Passing.{among_filter, ascending_filter, filter_among}
+use Rattle.mapdb_facts.proofs.States.Newness.{not_true}
 
 -- ---- names of records
 
@@ -59,10 +60,6 @@ names_behind after names = filter (is_after after) names
 pub behind_none : (names : List RecordId) → names_behind None names ≡ names
 behind_none [] = refl
 behind_none (id ∷ names) = ap (λ (rest : List RecordId). id ∷ rest) (behind_none names)
-
-not_true : (b : Bool) → not b ≡ true → b ≡ false
-not_true true h = absurd (false≢true h)
-not_true false h = refl
 
 module _ (facts : Facts) (space : Space) (page : ℕ) (named : IsNamed (state_of_facts facts))
     (formed : (r : Record) → Holds (state_of_facts facts) r → IsFormedRecord r) where
@@ -103,7 +100,7 @@ module _ (facts : Facts) (space : Space) (page : ℕ) (named : IsNamed (state_of
       let found = names_among live_records id k in
       let listed = listed_here found.0 found.1 in
       subst (λ (i : RecordId). IsLive S space page i) found.2
-      (record { into = held_into S space found.0 (no_root found.0 (formed found.0 listed.held)) listed.held listed.into; has_some = listed.some })
+      (record { into = held_into S space found.0 (not_root found.0 (formed found.0 listed.held)) listed.held listed.into; has_some = listed.some })
 
   root_live : (id : RecordId) (b : Bool) → has_root ≡ b → IsAmong id (if b then root ∷ [] else []) → IsLive S space page id
   root_live id false none k = absurd k
@@ -158,7 +155,7 @@ module _ (facts : Facts) (space : Space) (page : ℕ) (named : IsNamed (state_of
       behind_root id k =
           let found = names_among live_records id k in
           let listed = listed_here found.0 found.1 in
-          subst (λ (i : RecordId). is_before root i ≡ true) found.2 (root_before found.0.id (no_root found.0 (formed found.0 listed.held)))
+          subst (λ (i : RecordId). is_before root i ≡ true) found.2 (root_before found.0.id (not_root found.0 (formed found.0 listed.held)))
 
       by : (b : Bool) → IsAscending itself ((if b then root ∷ [] else []) ++ map by_id live_records)
       by true = (after_from itself root (map by_id live_records) behind_root, later)
@@ -186,7 +183,7 @@ module _ (facts : Facts) (space : Space) (page : ℕ) (named : IsNamed (state_of
           subst (λ (i : RecordId). IsAmong i (names_behind after names)) e (among_filter (is_after after) names id (live_among id next.live) next.above)
       from other (inr k) =
           let found = filter_among (is_after (Some id)) names other k in
-          among_filter (is_after after) names other found.0 (after_both after id other next.above found.1)
+          among_filter (is_after after) names other found.0 (after_later after id other next.above found.1)
 
   -- one name more was found
   pub next_found : (after : Option RecordId) (id : RecordId) (old new : List RecordId) → IsNextLive S space page after id → new ≡ old ++ id ∷ []

@@ -1,7 +1,7 @@
 -- One order after the other is looked at: of each one place holds the page.
-use Rattle.std.proofs.Common.{◌≡◌, ℕ, ◌+◌, ◌-◌, ◌/◌, ◌%◌, ◌<◌, ◌≤◌, Bool, true, false, refl, sym, ap, subst, ◌∙◌, arith, inl, inr, mul-le-mul_right}
+use Rattle.std.proofs.Common.{◌≡◌, ℕ, ◌+◌, ◌-◌, ◌/◌, ◌%◌, ◌<◌, ◌≤◌, true, false, refl, sym, ap, subst, ◌∙◌, arith, inl, inr, mul-le-mul_right}
 use Rattle.std.specs.Prelude.{◌⊎◌, Option, None, Some, IfSome, min, max, not}
-use Rattle.std.specs.Ordering.{is_gt, is_lt}
+use Rattle.std.specs.Ordering.{is_lt}
 use Rattle.std.proofs.lemmas.Bool.{and_from, and_parts, cases_Bool, cond-false, false≢true, lt-ltb, true≢false}
 use Rattle.mapdb_fpage.proofs.Meets.{holds_range}
 use Rattle.mapdb_fpage.specs.Bounds.{page_limit}
@@ -16,13 +16,13 @@ use Rattle.mapdb_facts.specs.WellFormed.{IsFormedRecord}
 use Rattle.mapdb_facts.specs.declared.names.RecordId.{RecordId}
 use Rattle.mapdb_facts.specs.declared.names.Space.{Space}
 use Rattle.mapdb_facts.specs.declared.operations.Record.{Record}
-use Rattle.mapdb_lists.specs.Listing.{IsAligned, IsLeastMeeting, IsNextMeeting, is_above, is_listed, listed_cmp, meets, own_place, listed_pages}
+use Rattle.mapdb_lists.specs.Listing.{IsAligned, IsLeastMeeting, IsNextMeeting, is_above, is_listed, meets, own_place, listed_pages}
 use Rattle.mapdb_lists.specs.declared.places.Listed.{Listed}
 use Rattle.mapdb_lists.specs.declared.places.Owner.TheVariants as owners
-use Rattle.mapdb_lists.proofs.Lists.ListedOrder.{le_parts, less_from, lt_parts}
+use Rattle.mapdb_lists.proofs.Lists.ListedOrder.{le_parts, lt_parts}
 use Rattle.mapdb_lists.proofs.PlaceLemmas.Meetings.{aligned_start, either_way, meets_below, same_pages, some_pages}
 use Rattle.mapdb_lists.specs.declared.places.Places.{Places}
-use Rattle.mapdb_rights.specs.Among.{IsLeastOf, IsLiveRoot, IsShown, IsShownAt, lesser, under}
+use Rattle.mapdb_rights.specs.Among.{IsLeastOf, IsShown, IsShownAt, lesser, under}
 use Rattle.mapdb_rights.specs.LivePlaces.{AreLive}
 use Rattle.mapdb_rights.specs.HeldPlaces.{place_of}
 use Rattle.mapdb_rights.specs.Live.{IsLive, IsLiveFrom}
@@ -30,7 +30,8 @@ use Rattle.mapdb_rights.specs.PageRights.{is_record_into}
 use Rattle.mapdb_rights.specs.Right.{rights_at}
 use Rattle.mapdb_rights.proofs.Settling.Ended.{rights_in_place}
 use Rattle.mapdb_rights.proofs.Lists.LeastNames.{least_of_both}
-use Rattle.mapdb_rights.proofs.Live.LiveRecords.{into_held, no_root}
+use Rattle.mapdb_rights.proofs.Live.LiveRecords.{into_held, not_root}
+use Rattle.mapdb_facts.proofs.States.Newness.{not_true}
 
 -- ---- of one order one place holds a page
 
@@ -97,26 +98,12 @@ module _ (S : State) (set : Places) (space : Space) (page : ℕ) where
   narrower Sound Sought More after None fit h = λ id more. h id (fit id more)
   narrower Sound Sought More after (Some id) fit h = record { sound = h.sound; above = h.above; least = λ other more above. h.least other (fit other more) above }
 
-  -- at first that is the root alone
-  pub swept_none : (after found : Option RecordId) → IsLeastOf (IsLive S space page) (IsLiveRoot S space page) after found → Swept after None found
-  swept_none after found h = record {
-    owned = tt;
-    ends = tt;
-    best = narrower (IsLive S space page) (IsLiveRoot S space page) (Came None) after found only_root h;
-  }
-    where
-      only_root : (id : RecordId) → Came None id → IsLiveRoot S space page id
-      only_root id came = elim came.1 [
-        | inl top ↦ (came.0, top)
-        | inr passed ↦ absurd (true≢false passed.2)
-      ]
-
   module _ (named : IsNamed S) (formed : (r : Record) → Holds S r → IsFormedRecord r) (lives : AreLive S set) where
     held_own : (id : RecordId) (r : Record) → S.record_at id ≡ Some r → Holds S r
     held_own id r at = subst (λ (i : RecordId). S.record_at i ≡ Some r) (sym (named id r at)) at
 
-    not_root : (id : RecordId) (r : Record) → S.record_at id ≡ Some r → is_root id ≡ false
-    not_root id r at = subst (λ (i : RecordId). is_root i ≡ false) (named id r at) (no_root r (formed r (held_own id r at)))
+    held_not_root : (id : RecordId) (r : Record) → S.record_at id ≡ Some r → is_root id ≡ false
+    held_not_root id r at = subst (λ (i : RecordId). is_root i ≡ false) (named id r at) (not_root r (formed r (held_own id r at)))
 
     -- what is shown has a right at the page of the space
     pub shown_live : (id : RecordId) → IsShown S space page id → IsLive S space page id
@@ -124,14 +111,10 @@ module _ (S : State) (set : Places) (space : Space) (page : ℕ) where
         let parts = and_parts (is_record_into (S.record_at id) space) (not (is_empty (rights_at S id page))) shown in
         by (S.record_at id) refl parts.0 parts.1
       where
-        not_true : (b : Bool) → not b ≡ true → b ≡ false
-        not_true true h = absurd (false≢true h)
-        not_true false h = refl
-
         by : (o : Option Record) → S.record_at id ≡ o → is_record_into (S.record_at id) space ≡ true → not (is_empty (rights_at S id page)) ≡ true → IsLive S space page id
         by None at into some = absurd (false≢true (sym (ap (λ (o : Option Record). is_record_into o space) at) ∙ into))
         by (Some r) at into some = record {
-          into = cond-false (is_root id) (is_first_space space) (is_record_into (S.record_at id) space) (not_root id r at) ∙ into;
+          into = cond-false (is_root id) (is_first_space space) (is_record_into (S.record_at id) space) (held_not_root id r at) ∙ into;
           has_some = not_true (is_empty (rights_at S id page)) some;
         }
 
@@ -185,7 +168,7 @@ module _ (S : State) (set : Places) (space : Space) (page : ℕ) where
 
           of_record : HasPassed (Some (order_end e)) id → Came passed id ⊎ IsShownAt set S space page e id
           of_record behind =
-              let there = standing id end (not_root id behind.0 behind.1) more came.0 in
+              let there = standing id end (held_not_root id behind.0 behind.1) more came.0 in
               let same : there.r ≡ behind.0 = one_record there.r behind.0 (sym there.at ∙ behind.1) in
               elim (cases_Bool (is_above passed (place_of there.r))) [
                 | inl above ↦ inr (
@@ -227,13 +210,3 @@ module _ (S : State) (set : Places) (space : Space) (page : ℕ) where
         by : (found : Option RecordId) → IsLeastOf (IsLive S space page) (Came passed) after found → IsLiveFrom S space page after found
         by None best = λ id live. best id (came_all id live)
         by (Some id) best = record { live = best.sound; above = best.above; least = λ other live above. best.least other (came_all other live) above }
-
-  -- the orders ascend
-  pub fewer_behind : (passed : Option Listed) (end : ℕ) (e : Listed) → IfSome passed (λ p. p.owner ≡ owners.Space space) → IfSome passed (λ p. p.first ≡ page_limit)
-      → IsAligned e → IsLeastMeeting set (owners.Space space) page end passed e → orders_behind (Some (order_end e)) < orders_behind passed
-  fewer_behind None end e owned ends place next = let most = place.at_most_all in omega arith
-  fewer_behind (Some p) end e owned ends place next =
-      elim (le_parts p e (owned ∙ sym next.owned) (ap is_gt (less_from (listed_cmp p e) next.above))) [
-        | inl less ↦ let most = place.at_most_all in omega arith
-        | inr both ↦ let low = both.1 in let inside = place.in_space in absurd (omega arith)
-      ]

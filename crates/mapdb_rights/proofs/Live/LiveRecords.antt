@@ -5,7 +5,7 @@ use Rattle.std.proofs.Common.{arith}
 use Rattle.std.proofs.lemmas.Bool.{and_from, and_parts, cases_Bool, cond-false, false≢true, true≢false}
 use Rattle.std.proofs.lemmas.Bool.Decides.{nat_tests}
 use Rattle.mapdb_fpage.specs.RightSets.{is_empty}
-use Rattle.mapdb_facts.proofs.RecordLemmas.Ascending.{before_else, before_trans}
+use Rattle.mapdb_facts.proofs.RecordLemmas.Ascending.{before_else}
 use Rattle.mapdb_facts.proofs.Lists.SameNames.{same_id_true, some_same}
 use Rattle.mapdb_facts.specs.Looking.{Holds, IsFound, IsNext}
 use Rattle.mapdb_facts.specs.Merging.{IsNamed}
@@ -18,11 +18,7 @@ use Rattle.mapdb_facts.specs.declared.operations.Record.{Record}
 use Rattle.mapdb_rights.specs.Live.{IsLive, IsLiveFrom, IsNextLive}
 use Rattle.mapdb_rights.specs.PageRights.{is_into, is_record_into}
 use Rattle.mapdb_rights.specs.Right.{rights_at}
-
--- what comes after a name that comes after another comes after the other
-pub after_both : (after : Option RecordId) (a b : RecordId) → is_after after a ≡ true → is_before a b ≡ true → is_after after b ≡ true
-after_both None a b h k = refl
-after_both (Some other) a b h k = before_trans other a b h k
+use Rattle.mapdb_facts.proofs.States.Newness.{not_true}
 
 -- a record of the space is held
 record_into : (S : State) (space : Space) (id : RecordId) (o : Option Record) → S.record_at id ≡ o → is_record_into o space ≡ true
@@ -46,13 +42,9 @@ held_into S space r apart held into =
     cond-false (is_root r.id) (is_first_space space) (is_record_into (S.record_at r.id) space) apart
     ∙ ap (λ (o : Option Record). is_record_into o space) held ∙ into
 
-not_true : (b : Bool) → not b ≡ true → b ≡ false
-not_true true h = absurd (false≢true h)
-not_true false h = refl
-
 -- a record behind the one before comes from its formed name
-pub no_root : (r : Record) → IsFormedRecord r → is_root r.id ≡ false
-no_root r formed = other r.id (and_parts (nat_lt 0 r.id.number) (nat_lt r.id.number number_limit) formed.has_number).0
+pub not_root : (r : Record) → IsFormedRecord r → is_root r.id ≡ false
+not_root r formed = other r.id (and_parts (nat_lt 0 r.id.number) (nat_lt r.id.number number_limit) formed.has_number).0
   where
     other : (id : RecordId) → nat_lt 0 id.number ≡ true → is_root id ≡ false
     other id some = grind (arith, nat_tests)

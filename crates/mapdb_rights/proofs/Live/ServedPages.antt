@@ -1,7 +1,6 @@
 -- What a page is served from, as its first record says.
 use Rattle.std.proofs.Common.{◌≡◌, ℕ, ◌+◌, ◌<◌, true, false, Some, refl, sym, ap, ◌∙◌, arith, inl, inr}
-use Rattle.std.specs.Prelude.{None}
-use Rattle.std.proofs.lemmas.Bool.{cases_Bool, true≢false}
+use Rattle.std.proofs.lemmas.Bool.{true≢false}
 use Rattle.mapdb_fpage.proofs.RightLemmas.{some_here}
 use Rattle.mapdb_fpage.specs.Bounds.{page_limit}
 use Rattle.mapdb_fpage.specs.RightSets.{includes, is_empty}
@@ -22,8 +21,9 @@ use Rattle.mapdb_rights.specs.Live.{IsLive}
 use Rattle.mapdb_rights.specs.PageRights.{HasPair}
 use Rattle.mapdb_rights.specs.Right.{has_right, rights_at}
 use Rattle.mapdb_rights.specs.Served.{IsServed}
-use Rattle.mapdb_rights.specs.declared.index.first_records.First.TheVariants.{Alike, Mixed, Nothing}
+use Rattle.mapdb_rights.specs.declared.index.first_records.First.TheVariants.{Alike, Mixed}
 use Rattle.mapdb_rights.specs.declared.index.rights_index.RightsIndex.{RightsIndex}
+use Rattle.mapdb_rights.proofs.Rights.OneFrameRelation.{some_number}
 
 pub right_in : (S : State) (id : RecordId) (page : ℕ) (right : Right) → includes (rights_at S id page) right ≡ has_right S id page right
 right_in S id page Read = refl
@@ -48,13 +48,6 @@ module _ (S : State) (index : RightsIndex) (stands : StandsFor index S) (space :
   has_frame : (id : RecordId) → IsLive S space page id → HasFrame S id page (seen id).shift
   has_frame id live = stands.stands.shows.frames id page (ap is_empty (stands.stands.shows.rights id page) ∙ live.has_some)
 
-  -- where none has a right, from none
-  pub served_nothing : IsFirstOfAll S index.changes.own.entries space page Nothing → IsServed S space page None
-  served_nothing first id into = elim (cases_Bool (is_empty (rights_at S id page))) [
-    | inl empty ↦ empty
-    | inr some ↦ absurd (first.all id (record { into = into; has_some = some }))
-  ]
-
   module _ (first : RecordId) (live : IsLive S space page first) (shift frame : ℕ) (is : (seen first).shift ≡ shift)
       (far : (f : ℕ) → f < page_limit → f + page_limit ≡ page + shift → frame ≡ f) where
     -- a record reaches the frame where it is as far from the page
@@ -67,13 +60,10 @@ module _ (S : State) (index : RightsIndex) (stands : StandsFor index S) (space :
     shift_is id of reached =
         let has = has_frame id of in
         let own = has_frame first live in
-        let same : has.frame ≡ own.frame = one has.frame own.frame (sym has.reached ∙ reached ∙ sym (frame_is first live is) ∙ own.reached) in
+        let same : has.frame ≡ own.frame = some_number has.frame own.frame (sym has.reached ∙ reached ∙ sym (frame_is first live is) ∙ own.reached) in
         let far_here = has.far in
         let far_own = own.far in
         omega (arith, same, far_here, far_own, is)
-      where
-        one : (a b : ℕ) → Some a ≡ Some b → a ≡ b
-        one a b e = cc
 
     pub served_from : (rights : Rights) → ((other : RecordId) → IsLive S space page other → is_before other first ≡ false)
         → IsAllAsFar S index.changes.own.entries space page shift rights → IsServed S space page (Some (frame, rights))

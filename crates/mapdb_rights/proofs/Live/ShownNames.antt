@@ -2,7 +2,7 @@
 use Rattle.std.proofs.Common.{◌≡◌, ℕ, true, false, sym, ap, ◌∙◌, inl, inr}
 use Rattle.std.specs.Prelude.{Option, None, Some}
 use Rattle.std.proofs.lemmas.Bool.{cases_Bool, false≢true, true≢false}
-use Rattle.mapdb_facts.proofs.RecordLemmas.Ascending.{before_else}
+use Rattle.mapdb_facts.proofs.RecordLemmas.Ascending.{before_else, after_later}
 use Rattle.mapdb_facts.proofs.Lists.SameNames.{same_id_true}
 use Rattle.mapdb_facts.specs.Names.{is_after, same_id}
 use Rattle.mapdb_facts.specs.State.{State}
@@ -11,7 +11,6 @@ use Rattle.mapdb_facts.specs.declared.names.Space.{Space}
 use Rattle.mapdb_lists.specs.declared.places.Listed.{Listed}
 use Rattle.mapdb_lists.specs.declared.places.Places.{Places}
 use Rattle.mapdb_rights.specs.Among.{IsLeastName, IsLeastOf, IsShown, IsShownAt, StandsAt, is_shown}
-use Rattle.mapdb_rights.proofs.Live.LiveRecords.{after_both}
 
 module _ (set : Places) (S : State) (space : Space) (page : ℕ) (place : Listed) (after : Option RecordId) where
   -- those that are sought come behind the name
@@ -26,7 +25,7 @@ module _ (set : Places) (S : State) (space : Space) (page : ℕ) (place : Listed
       | inl same ↦ absurd (true≢false (sym shown.1 ∙ ap (is_shown S space page) (sym (same_id_true name id same)) ∙ miss))
       | inr other ↦ other
     ]);
-    within = λ id behind. h.within id (after_both from name id next.above behind);
+    within = λ id behind. h.within id (after_later from name id next.above behind);
   }
 
   pub shown_here : (from : Option RecordId) (name : RecordId) → IsLeastName (StandsAt set place) (StandsAt set place) from name → is_shown S space page name ≡ true

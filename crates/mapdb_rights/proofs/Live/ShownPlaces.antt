@@ -28,7 +28,7 @@ use Rattle.mapdb_rights.specs.PageRights.{is_record_into}
 use Rattle.mapdb_rights.specs.Right.{rights_at}
 use Rattle.mapdb_rights.specs.declared.index.first_records.First.{First}
 use Rattle.mapdb_rights.proofs.Live.LiveOrders.{shown_live}
-use Rattle.mapdb_rights.proofs.Live.LiveRecords.{no_root}
+use Rattle.mapdb_rights.proofs.Live.LiveRecords.{not_root}
 use Rattle.mapdb_rights.proofs.Settling.Ended.{rights_in_place}
 use Rattle.mapdb_rights.proofs.Settling.Followed.{listed_into}
 use Rattle.mapdb_rights.proofs.Settling.LiveRecords.{of_live}
@@ -55,7 +55,7 @@ module _ (S : State) (set : Places) (lives : AreLive S set) (space : Space) (pag
       by r held is shown =
           let first : p.first ≡ r.place.first_page = ap (λ (e : Listed). e.first) is in
           let live = shown_live S set space page lives.named lives.formed lives r.id (subst (λ (i : RecordId). is_shown S space page i ≡ true) (ap (λ (e : Listed). e.id) is) shown) in
-          let inside : holds r.place page ≡ true = rights_in_place S r.id r page (no_root r (lives.formed r held)) held live.has_some in
+          let inside : holds r.place page ≡ true = rights_in_place S r.id r page (not_root r (lives.formed r held)) held live.has_some in
           let low : r.place.first_page ≤ page = (holds_range r.place page inside).0 in
           omega (arith, first, low, behind)
 

@@ -2,68 +2,24 @@
 use Rattle.std.proofs.Common.{◌≡◌, ℕ, ◌<◌, ◌≤◌, true, false, refl, sym, ap, subst, ◌∙◌, arith, inl, inr}
 use Rattle.std.specs.Prelude.{◌⊎◌, Option, None, Some}
 use Rattle.std.specs.BTreeMap.Range.{IsFromStart}
-use Rattle.std.specs.Ordering.{is_gt, is_lt, nat_cmp, ordering_reverse, ordering_then}
-use Rattle.std.specs.declared.cmp.Ordering.TheVariants.{Greater, Less}
-use Rattle.std.proofs.lemmas.Bool.{cases_Bool, false≢true, true≢false}
+use Rattle.std.specs.Ordering.{is_gt, is_lt, nat_cmp, ordering_then}
+use Rattle.std.proofs.lemmas.Bool.{cases_Bool}
 use Rattle.std.proofs.lemmas.Bool.Decides.{nat_tests}
 use Rattle.std.proofs.lemmas.Cmp.{nat_cmp_total, tied_itself}
-use Rattle.mapdb_facts.proofs.Lists.Comparing.{below_from, from_below}
+use Rattle.mapdb_facts.proofs.Lists.Comparing.{not_before_from, before_from, from_before}
 use Rattle.mapdb_facts.specs.Kept.{id_cmp}
 use Rattle.mapdb_facts.specs.Names.{is_after, is_before, root}
 use Rattle.mapdb_facts.specs.declared.names.RecordId.{RecordId}
 use Rattle.mapdb_lists.specs.Listing.{IsFirst, IsFirstInside, is_above, is_listed, listed_cmp}
 use Rattle.mapdb_lists.specs.declared.places.Listed.{Listed}
-use Rattle.mapdb_facts.proofs.NameLemmas.NamesInOrder.{id_total}
-use Rattle.mapdb_lists.proofs.Lists.ListedOrder.{from_above, from_equal, le_parts, root_first, same_then, three_ways}
+use Rattle.mapdb_lists.proofs.Lists.ListedOrder.{le_parts, root_first, same_then}
 use Rattle.mapdb_lists.specs.declared.places.Places.{Places}
 use Rattle.mapdb_rights.specs.Among.{IsLeastName, StandsAt, behind_name, under}
 
 -- ---- names
 
-lesser_number : (n p m q : ℕ) → n < m → is_before (record { number = n; processor = p }) (record { number = m; processor = q }) ≡ true
-lesser_number n p m q h = grind (arith, nat_tests)
-
-lesser_processor : (n p m q : ℕ) → n ≡ m → p < q → is_before (record { number = n; processor = p }) (record { number = m; processor = q }) ≡ true
-lesser_processor n p m q e h = grind (arith, nat_tests)
-
 by_processor : (n p m q : ℕ) → n ≡ m → is_before (record { number = n; processor = p }) (record { number = m; processor = q }) ≡ true → p < q
 by_processor n p m q e h = grind (arith, nat_tests)
-
-no_greater : (n p m q : ℕ) → m < n → is_before (record { number = n; processor = p }) (record { number = m; processor = q }) ≡ true → ⊥
-no_greater n p m q above h = grind (arith, nat_tests)
-
-pub less_of : (a b : RecordId) → is_before a b ≡ true → id_cmp a b ≡ Less
-less_of a b h =
-    elim (three_ways a.number b.number) [
-      | inl less ↦ ap (λ x. ordering_then x (nat_cmp a.processor b.processor)) (from_below a.number b.number less)
-      | inr more ↦ elim more [
-        | inl same ↦
-            ap (λ x. ordering_then x (nat_cmp a.processor b.processor)) (from_equal a.number b.number same)
-            ∙ from_below a.processor b.processor (by_processor a.number a.processor b.number b.processor same h)
-        | inr above ↦ absurd (no_greater a.number a.processor b.number b.processor above h)
-      ]
-    ]
-
-pub before_of : (a b : RecordId) → id_cmp a b ≡ Less → is_before a b ≡ true
-before_of a b h =
-    elim (three_ways a.number b.number) [
-      | inl less ↦ lesser_number a.number a.processor b.number b.processor less
-      | inr more ↦ elim more [
-        | inl same ↦
-            let later : nat_cmp a.processor b.processor ≡ Less = sym (ap (λ x. ordering_then x (nat_cmp a.processor b.processor)) (from_equal a.number b.number same)) ∙ h in
-            lesser_processor a.number a.processor b.number b.processor same (below_from a.processor b.processor later)
-        | inr above ↦
-            let greater : Greater ≡ Less = sym (ap (λ x. ordering_then x (nat_cmp a.processor b.processor)) (from_above a.number b.number above)) ∙ h in
-            absurd (false≢true (ap is_lt greater))
-      ]
-    ]
-
-pub not_before : (a b : RecordId) → is_gt (id_cmp a b) ≡ false → is_before b a ≡ false
-not_before a b h =
-    elim (cases_Bool (is_before b a)) [
-      | inl before ↦ absurd (true≢false (sym (ap is_gt (id_total.antisymm a b ∙ ap ordering_reverse (less_of b a before))) ∙ h))
-      | inr other ↦ other
-    ]
 
 -- ---- at one place
 
@@ -80,16 +36,16 @@ entry_of place (Some id) = Some (under place id)
 
 pub entry_above : (place : Listed) (after : Option RecordId) (id : RecordId) → is_after after id ≡ true → is_above (entry_of place after) (under place id) ≡ true
 entry_above place None id h = refl
-entry_above place (Some a) id h = ap is_lt (under_cmp place a id ∙ less_of a id h)
+entry_above place (Some a) id h = ap is_lt (under_cmp place a id ∙ from_before a id h)
 
 module _ (place : Listed) where
   inside_from : (after : Option RecordId) (id : RecordId) → is_after after id ≡ true → IsFromStart listed_cmp (behind_name place after) (under place id)
   inside_from None id h = ap is_gt (under_cmp place root id) ∙ root_first id
-  inside_from (Some a) id h = under_cmp place a id ∙ less_of a id h
+  inside_from (Some a) id h = under_cmp place a id ∙ from_before a id h
 
   after_inside : (after : Option RecordId) (id : RecordId) → IsFromStart listed_cmp (behind_name place after) (under place id) → is_after after id ≡ true
   after_inside None id h = refl
-  after_inside (Some a) id h = before_of a id (sym (under_cmp place a id) ∙ h)
+  after_inside (Some a) id h = before_from a id (sym (under_cmp place a id) ∙ h)
 
   -- where none comes none has a later name
   pub none_there : (set : Places) (after : Option RecordId) → IsFirstInside set place.owner (behind_name place after) None → (id : RecordId) → StandsAt set place id
@@ -112,7 +68,7 @@ module _ (place : Listed) where
           least = λ other has above.
               let le : is_gt (listed_cmp (under place e.id) (under place other)) ≡ false =
               subst (λ (k : Listed). is_gt (listed_cmp k (under place other)) ≡ false) is (h.least (under place other) has refl (inside_from after other above)) in
-              not_before e.id other (sym (ap is_gt (under_cmp place e.id other)) ∙ le);
+              not_before_from e.id other (sym (ap is_gt (under_cmp place e.id other)) ∙ le);
         }
 
     -- where a name comes at the place the first entry stands there

@@ -1,10 +1,10 @@
 -- Places one after the other in the order of their first pages.
-use Rattle.std.proofs.Common.{◌≡◌, ℕ, ◌+◌, ◌-◌, ◌<◌, ◌≤◌, Bool, true, false, refl, sym, ap, subst, List, [], ◌∷◌, ◌++◌, ◌∙◌, arith, drop, get_or, inl, inr, length, suc, drop-cons, get_or-drop, length-drop}
+use Rattle.std.proofs.Common.{◌≡◌, ℕ, ◌+◌, ◌-◌, ◌<◌, ◌≤◌, Bool, true, false, sym, ap, subst, List, [], ◌∷◌, ◌++◌, ◌∙◌, arith, drop, get_or, inl, inr, length, suc, drop-cons, get_or-drop, length-drop}
 use Rattle.std.proofs.lemmas.List.{drop_more}
 use Rattle.std.specs.Prelude.{◌⊎◌, ◌||◌, ◌&&◌, filter, max, min, nat_lt}
 use Rattle.std.specs.BTreeMap.{is_at}
 use Rattle.std.specs.List.Sorted.{IsNonDecreasingBy}
-use Rattle.std.proofs.lemmas.Bool.{cases_Bool, false≢true, lt-ltb, ltb-true}
+use Rattle.std.proofs.lemmas.Bool.{cases_Bool, false≢true, lt-ltb, or_right}
 use Rattle.std.proofs.lemmas.Map.Views.{any-filter_same}
 use Rattle.mapdb_fpage.specs.Bounds.{page_limit}
 use Rattle.mapdb_lists.specs.OwnPlaces.{AreAligned, own_meets, own_pages, place_cmp, stands}
@@ -16,11 +16,6 @@ use Rattle.mapdb_lists.proofs.PlaceLemmas.PlaceOrder.{exact_place, place_itself}
 use Rattle.mapdb_rights.specs.PlaceWalks.{BeginBehind, HasCome}
 use Rattle.mapdb_rights.specs.declared.index.place_walk.PlaceWalk.{PlaceWalk}
 
-pub same_when : (a b : Bool) → (a ≡ true → b ≡ true) → (b ≡ true → a ≡ true) → a ≡ b
-same_when true b there back = sym (there refl)
-same_when false true there back = back refl
-same_when false false there back = refl
-
 -- ---- one place more
 
 pub pushed : (places : List OwnPlace) (x p : OwnPlace) → stands (places ++ x ∷ []) p ≡ true → (x ≡ p) ⊎ (stands places p ≡ true)
@@ -30,11 +25,7 @@ pushed places x p has = elim (cases_Bool (is_at (place_cmp x) p)) [
 ]
 
 pub pushed_old : (places : List OwnPlace) (x p : OwnPlace) → stands places p ≡ true → stands (places ++ x ∷ []) p ≡ true
-pushed_old places x p has = stands_more places x p ∙ either (is_at (place_cmp x) p) (stands places p) has
-  where
-    either : (a b : Bool) → b ≡ true → (a || b) ≡ true
-    either true b h = refl
-    either false b h = h
+pushed_old places x p has = stands_more places x p ∙ or_right (is_at (place_cmp x) p) (stands places p) has
 
 pub pushed_new : (places : List OwnPlace) (x : OwnPlace) → stands (places ++ x ∷ []) x ≡ true
 pushed_new places x = stands_more places x x ∙ ap (λ (b : Bool). b || stands places x) (place_itself x)
@@ -72,21 +63,6 @@ first_within places aligned i d inside =
 
 -- ---- which places hold a page
 
--- what meets pages from a later one on meets them from an earlier one on
-pub meets_from : (p : OwnPlace) (page later end : ℕ) → page ≤ later → own_meets p later end ≡ true → own_meets p page end ≡ true
-meets_from p page later end up h =
-    let both = meets_below p later end h in
-    let begins : p.first < end = both.0 in
-    let ends : later < p.first + own_pages p = both.1 in
-    let some = some_pages p in
-    let there : later < end = pages_there in
-    lt-ltb (max p.first page) (min (p.first + own_pages p) end) (omega arith)
-  where
-    pages_there : later < end
-    pages_there =
-        let less : max p.first later < min (p.first + own_pages p) end = ltb-true (max p.first later) (min (p.first + own_pages p) end) h in
-        omega arith
-
 -- a place meets the pages of its space
 pub meets_all : (places : List OwnPlace) → AreAligned places → (p : OwnPlace) → stands places p ≡ true → own_meets p 0 page_limit ≡ true
 meets_all places aligned p has =
@@ -97,12 +73,6 @@ meets_all places aligned p has =
 -- what meets the pages lasts beyond the first of them
 pub meets_lasts : (p : OwnPlace) (page end : ℕ) → own_meets p page end ≡ true → nat_lt page (p.first + own_pages p) ≡ true
 meets_lasts p page end h = let both = meets_below p page end h in lt-ltb page (p.first + own_pages p) both.1
-
-pub come_later : (places : List OwnPlace) (page later : ℕ) (walk : PlaceWalk) → page ≤ later → HasCome places page walk → HasCome places later walk
-come_later places page later walk up come = record {
-  known = come.known;
-  all = λ p has meeting. come.all p has (meets_from p page later page_limit up meeting);
-}
 
 -- ---- a walk
 

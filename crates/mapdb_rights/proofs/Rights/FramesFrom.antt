@@ -5,8 +5,6 @@ use Rattle.std.proofs.lemmas.Bool.{cases_Bool, cond-false, cond-true, lt-ltb, lt
 use Rattle.mapdb_fpage.specs.Bounds.{page_limit}
 use Rattle.mapdb_fpage.specs.Place.{is_page}
 use Rattle.mapdb_fpage.specs.RightSets.{is_empty, no_rights}
-use Rattle.mapdb_fpage.proofs.RightLemmas.{none_of}
-use Rattle.mapdb_fpage.specs.declared.right_sets.Right.TheVariants.{Read, Write, Execute}
 use Rattle.mapdb_fpage.specs.declared.right_sets.Rights.{Rights}
 use Rattle.mapdb_facts.specs.Names.{is_root}
 use Rattle.mapdb_facts.specs.State.{State, join}
@@ -24,14 +22,11 @@ use Rattle.mapdb_rights.proofs.Rights.FromParents.{from_powerless}
 use Rattle.mapdb_rights.proofs.Settling.Settlement.{covered}
 use Rattle.mapdb_rights.proofs.Rights.Steps.{frame_at-root}
 use Rattle.mapdb_rights.proofs.Rights.Walk.{frame_at-up}
+use Rattle.mapdb_facts.proofs.Maps.CutRuns.{empty_none}
 
 -- what has no rights is not what has some
 pub no_longer_none : (a : Rights) → a ≡ no_rights → is_empty a ≡ false → ⊥
 no_longer_none a none some = false≢true (sym some ∙ ap is_empty none)
-
--- what is empty is no rights
-empty_is : (a : Rights) → is_empty a ≡ true → a ≡ no_rights
-empty_is a h = λ i. record { read = none_of a Read h i; write = none_of a Write h i; execute = none_of a Execute h i }
 
 -- each page of the root is its own frame
 pub root_frame : (S : State) (id : RecordId) (page : ℕ) → is_root id ≡ true → page < page_limit → HasFrame S id page page_limit
@@ -62,7 +57,7 @@ module _ (S : State) (id : RecordId) where
           elim (cases_Bool (is_empty (cached_in changes r.parent (source_page r page)))) [
             | inr has ↦ has
             | inl none ↦ absurd (no_longer_none (rights_from (cached_in changes) S id page)
-                (from_powerless (cached_in changes) S id page r other held (empty_is (cached_in changes r.parent (source_page r page)) none)) some)
+                (from_powerless (cached_in changes) S id page r other held (empty_none (cached_in changes r.parent (source_page r page)) none)) some)
           ]
 
       pub up_has : (page : ℕ) → is_empty (rights_from (cached_in changes) S id page) ≡ false → HasFrame S r.parent (source_page r page) (seen_in changes r.parent (source_page r page)).shift

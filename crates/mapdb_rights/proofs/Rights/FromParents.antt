@@ -14,14 +14,14 @@ use Rattle.mapdb_facts.specs.declared.names.RecordId.{RecordId}
 use Rattle.mapdb_facts.specs.declared.operations.Record.{Record}
 use Rattle.mapdb_lists.specs.Changes.{Cached}
 use Rattle.mapdb_rights.specs.Right.{allows, reaches, record_right, right_by, source_page}
-use Rattle.mapdb_rights.proofs.Rights.Walk.{same_rights as from_each_right}
 use Rattle.mapdb_rights.specs.Caching.{rights_from}
 use Rattle.mapdb_rights.proofs.Rights.Settled.{tests}
+use Rattle.mapdb_facts.proofs.Maps.CutRuns.{same_where}
 
 module _ (cached : Cached) (S : State) (id : RecordId) (page : ℕ) where
   pub from_root : is_root id ≡ true → is_page page ≡ true → rights_from cached S id page ≡ without all_rights (cut_at S id page)
   from_root top inside =
-      from_each_right (right_by page_limit (tests cached) S id page) (λ right. includes all_rights right && not (includes (cut_at S id page) right)) (λ right.
+      same_where (right_by page_limit (tests cached) S id page) (λ right. includes all_rights right && not (includes (cut_at S id page) right)) (λ right.
       cond-true (is_root id) _ _ top ∙ ap (λ (t : Bool). t && not (S.is_cut id page right)) inside ∙ each right)
     where
       each : (right : Right) → (true && not (S.is_cut id page right)) ≡ (includes all_rights right && not (includes (cut_at S id page) right))
@@ -31,12 +31,12 @@ module _ (cached : Cached) (S : State) (id : RecordId) (page : ℕ) where
 
   pub from_beyond : is_root id ≡ true → is_page page ≡ false → rights_from cached S id page ≡ no_rights
   from_beyond top out =
-      from_each_right (right_by page_limit (tests cached) S id page) (λ _. false) (λ right.
+      same_where (right_by page_limit (tests cached) S id page) (λ _. false) (λ right.
       cond-true (is_root id) _ _ top ∙ ap (λ (t : Bool). t && not (S.is_cut id page right)) out)
 
   pub from_none : is_root id ≡ false → S.record_at id ≡ None → rights_from cached S id page ≡ no_rights
   from_none other none =
-      from_each_right (right_by page_limit (tests cached) S id page) (λ _. false) (λ right.
+      same_where (right_by page_limit (tests cached) S id page) (λ _. false) (λ right.
       cond-false (is_root id) _ _ other ∙ ap (λ o. record_right (tests cached) S id o page right) none)
 
   module _ (r : Record) (other : is_root id ≡ false) (held : S.record_at id ≡ Some r) where
@@ -45,7 +45,7 @@ module _ (cached : Cached) (S : State) (id : RecordId) (page : ℕ) where
 
     pub from_outside : holds r.place page ≡ false → rights_from cached S id page ≡ no_rights
     from_outside out =
-        from_each_right (right_by page_limit (tests cached) S id page) (λ _. false) (λ right.
+        same_where (right_by page_limit (tests cached) S id page) (λ _. false) (λ right.
         from_record right
         ∙ and_left (reaches id r page && allows S id r page right) (tests cached r.parent (source_page r page) right)
         (and_left (reaches id r page) (allows S id r page right) (and_left (holds r.place page) (nat_lt r.parent.number id.number) out)))
@@ -53,7 +53,7 @@ module _ (cached : Cached) (S : State) (id : RecordId) (page : ℕ) where
     -- a parent without rights gives none
     pub from_powerless : cached r.parent (source_page r page) ≡ no_rights → rights_from cached S id page ≡ no_rights
     from_powerless none =
-        from_each_right (right_by page_limit (tests cached) S id page) (λ _. false) (λ right.
+        same_where (right_by page_limit (tests cached) S id page) (λ _. false) (λ right.
         from_record right
         ∙ and_right (reaches id r page && allows S id r page right) (tests cached r.parent (source_page r page) right)
         (ap (λ v. includes v right) none ∙ nothing_in right))
@@ -65,7 +65,7 @@ module _ (cached : Cached) (S : State) (id : RecordId) (page : ℕ) where
 
     pub from_ended : S.is_ended r.space ≡ true → rights_from cached S id page ≡ no_rights
     from_ended over =
-        from_each_right (right_by page_limit (tests cached) S id page) (λ _. false) (λ right.
+        same_where (right_by page_limit (tests cached) S id page) (λ _. false) (λ right.
         from_record right
         ∙ and_left (reaches id r page && allows S id r page right) (tests cached r.parent (source_page r page) right)
         (and_right (reaches id r page) (allows S id r page right)
@@ -74,7 +74,7 @@ module _ (cached : Cached) (S : State) (id : RecordId) (page : ℕ) where
     pub from_up : reaches id r page ≡ true → S.is_ended r.space ≡ false
         → rights_from cached S id page ≡ without (common r.rights (cached r.parent (source_page r page))) (cut_at S id page)
     from_up reach open_still =
-        from_each_right (right_by page_limit (tests cached) S id page) (λ right. includes (common r.rights (cached r.parent (source_page r page))) right && not (includes (cut_at S id page) right)) (λ right.
+        same_where (right_by page_limit (tests cached) S id page) (λ right. includes (common r.rights (cached r.parent (source_page r page))) right && not (includes (cut_at S id page) right)) (λ right.
         from_record right
         ∙ ap (λ (t : Bool). t && allows S id r page right && tests cached r.parent (source_page r page) right) reach
         ∙ ap (λ (t : Bool). true && (includes r.rights right && not (S.is_cut id page right) && not t) && tests cached r.parent (source_page r page) right) open_still

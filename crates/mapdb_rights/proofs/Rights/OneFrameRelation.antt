@@ -24,10 +24,10 @@ abbrev ChildReaches : State → Reached → RecordId → ℕ → ℕ → Type 0
 ChildReaches S reached id page frame =
     (r : Record) × LeadsOn S id r page × (reached r.parent (source_page r page) ≡ Some frame)
 
-none_some : (frame : ℕ) → None ≡ Some frame → ⊥
+pub none_some : (frame : ℕ) → None ≡ Some frame → ⊥
 none_some frame e = cc
 
-some_number : (x y : ℕ) → Some x ≡ Some y → x ≡ y
+pub some_number : (x y : ℕ) → Some x ≡ Some y → x ≡ y
 some_number x y e = cc
 
 -- a frame behind a test

@@ -16,30 +16,23 @@ use Rattle.mapdb_facts.specs.declared.operations.Op.TheVariants.{Cut}
 use Rattle.mapdb_facts.specs.declared.operations.Record.{Record}
 use Rattle.mapdb_facts.specs.declared.operations.Revocation.{Revocation}
 use Rattle.mapdb_lists.specs.Changes.{Cached}
-use Rattle.mapdb_rights.specs.Right.{allows, reaches, record_right, right_by, rights_at, source_page}
+use Rattle.mapdb_rights.specs.Right.{allows, reaches, record_right, right_by, source_page}
 use Rattle.mapdb_rights.specs.Caching.{IsSettled, rights_from}
 use Rattle.mapdb_rights.specs.Revoked.{IsRevoked}
-use Rattle.mapdb_rights.proofs.Rights.Settled.{exact_is_settled, tests}
-use Rattle.mapdb_rights.proofs.Rights.Walk.{rights_at-outside, same_rights}
+use Rattle.mapdb_rights.proofs.Rights.Settled.{tests}
+use Rattle.mapdb_facts.proofs.Maps.CutRuns.{same_where}
 
 module _ (S : State) (r : Record) (revoked : IsRevoked S r) (other : is_root r.id ≡ false) (held : S.record_at r.id ≡ Some r) where
   -- nothing comes from the parent to a page of it
   pub revoked_from : (cached : Cached) (page : ℕ) → holds r.place page ≡ true → rights_from cached S r.id page ≡ no_rights
   revoked_from cached page inside =
-      same_rights (right_by page_limit (tests cached) S r.id page) (λ _. false) (λ right.
+      same_where (right_by page_limit (tests cached) S r.id page) (λ _. false) (λ right.
       cond-false (is_root r.id) (is_page page && not (S.is_cut r.id page right)) (record_right (tests cached) S r.id (S.record_at r.id) page right) other
       ∙ ap (λ o. record_right (tests cached) S r.id o page right) held
       ∙ and_left (reaches r.id r page && allows S r.id r page right) (tests cached r.parent (source_page r page) right)
       (and_right (reaches r.id r page) (allows S r.id r page right)
       (and_left (includes r.rights right && not (S.is_cut r.id page right)) (not (S.is_ended r.space))
       (and_right (includes r.rights right) (not (S.is_cut r.id page right)) (ap not (revoked page inside right))))))
-
-  -- it has no right at any page
-  pub revoked_rights : (page : ℕ) → rights_at S r.id page ≡ no_rights
-  revoked_rights page = elim (cases_Bool (holds r.place page)) [
-    | inl inside ↦ exact_is_settled S (rights_at S) (λ id q. refl) r.id page ∙ revoked_from (rights_at S) page inside
-    | inr out ↦ rights_at-outside S r.id r page other held out
-  ]
 
   -- what settled stays so, whatever its parent has
   pub revoked_settled : (cached new : Cached) (page : ℕ) → holds r.place page ≡ true → new r.id page ≡ no_rights → IsSettled S new r.id page

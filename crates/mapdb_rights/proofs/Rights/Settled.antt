@@ -17,8 +17,8 @@ use Rattle.mapdb_facts.specs.declared.operations.Record.{Record}
 use Rattle.mapdb_lists.specs.Changes.{Cached, covers}
 use Rattle.mapdb_rights.specs.Right.{allows, has_right, reaches, record_right, right_by, rights_at, source_page}
 use Rattle.mapdb_rights.proofs.Rights.Steps.{earlier, has_right-step}
-use Rattle.mapdb_rights.proofs.Rights.Walk.{same_rights as from_each_right}
 use Rattle.mapdb_rights.specs.Caching.{AreRights, HasOtherSource, IsSettled, SettledIsExact, SettlingUnsettlesChildren, rights_from}
+use Rattle.mapdb_facts.proofs.Maps.CutRuns.{same_where}
 
 pub includes_where : (f : Right → Bool) (right : Right) → includes (rights_where f) right ≡ f right
 includes_where f Read = refl
@@ -44,12 +44,12 @@ tests cached q s right = includes (cached q s) right
 exact_within : (n : ℕ) (S : State) (cached : Cached) → ((id : RecordId) (page : ℕ) → IsSettled S cached id page) → (id : RecordId) (page : ℕ) → id.number ≤ n → cached id page ≡ rights_at S id page
 exact_within zero S cached settled id page below =
     settled id page
-    ∙ from_each_right (right_by page_limit (tests cached) S id page) (has_right S id page) (λ right.
+    ∙ same_where (right_by page_limit (tests cached) S id page) (has_right S id page) (λ right.
     by_parent (tests cached) (has_right S) S id page right (λ r held reach. let lt = earlier id r page reach in absurd (omega arith))
     ∙ sym (has_right-step S id page right))
 exact_within (suc n) S cached settled id page below =
     settled id page
-    ∙ from_each_right (right_by page_limit (tests cached) S id page) (has_right S id page) (λ right.
+    ∙ same_where (right_by page_limit (tests cached) S id page) (has_right S id page) (λ right.
     by_parent (tests cached) (has_right S) S id page right (λ r held reach.
     let lt = earlier id r page reach in
     ap (λ v. includes v right) (exact_within n S cached settled r.parent (source_page r page) (omega arith))
@@ -63,7 +63,7 @@ settled_is_exact S cached settled id page = exact_within id.number S cached sett
 pub exact_is_settled : (S : State) (cached : Cached) → AreRights S cached → (id : RecordId) (page : ℕ) → IsSettled S cached id page
 exact_is_settled S cached are id page =
     are id page
-    ∙ from_each_right (has_right S id page) (right_by page_limit (tests cached) S id page) (λ right.
+    ∙ same_where (has_right S id page) (right_by page_limit (tests cached) S id page) (λ right.
     has_right-step S id page right
     ∙ by_parent (has_right S) (tests cached) S id page right (λ r held reach.
     sym (ap (λ v. includes v right) (are r.parent (source_page r page)) ∙ includes_where (has_right S r.parent (source_page r page)) right)))
@@ -73,7 +73,7 @@ module _ (S : State) (cached new : Cached) (id : RecordId) (page : ℕ) where
   same_source : ((r : Record) → S.record_at id ≡ Some r → reaches id r page ≡ true → new r.parent (source_page r page) ≡ cached r.parent (source_page r page))
       → rights_from new S id page ≡ rights_from cached S id page
   same_source same =
-      from_each_right (right_by page_limit (tests new) S id page) (right_by page_limit (tests cached) S id page) (λ right.
+      same_where (right_by page_limit (tests new) S id page) (right_by page_limit (tests cached) S id page) (λ right.
       by_parent (tests new) (tests cached) S id page right (λ r held reach. ap (λ v. includes v right) (same r held reach)))
 
   abbrev Follows : Type 0

@@ -14,22 +14,19 @@ use Rattle.mapdb_facts.specs.State.{State}
 use Rattle.mapdb_rights.specs.Right.{allows, has_right, reaches, rights_at, source_page}
 use Rattle.mapdb_rights.specs.Frame.{frame_at}
 use Rattle.mapdb_rights.proofs.Rights.Steps.{has_right-root, has_right-record, has_right-none, frame_at-record}
-
--- tests that agree at each right make the same set
-pub same_rights : (f g : Right → Bool) → ((right : Right) → f right ≡ g right) → rights_where f ≡ rights_where g
-same_rights f g h = λ i. record { read = h Read i; write = h Write i; execute = h Execute i }
+use Rattle.mapdb_facts.proofs.Maps.CutRuns.{same_where}
 
 pub common_none : (a : Rights) → common a no_rights ≡ no_rights
-common_none a = same_rights (λ right. includes a right && false) (λ _. false) (λ right. and_right (includes a right) false refl)
+common_none a = same_where (λ right. includes a right && false) (λ _. false) (λ right. and_right (includes a right) false refl)
 
 -- no rights where there is no record
 pub rights_at-none : (S : State) (id : RecordId) (page : ℕ) → is_root id ≡ false → S.record_at id ≡ None → rights_at S id page ≡ no_rights
-rights_at-none S id page other none = same_rights (has_right S id page) (λ _. false) (λ right. has_right-none S id page right other none)
+rights_at-none S id page other none = same_where (has_right S id page) (λ _. false) (λ right. has_right-none S id page right other none)
 
 -- no rights outside the place
 pub rights_at-outside : (S : State) (id : RecordId) (r : Record) (page : ℕ) → is_root id ≡ false → S.record_at id ≡ Some r → holds r.place page ≡ false → rights_at S id page ≡ no_rights
 rights_at-outside S id r page other held out =
-    same_rights (has_right S id page) (λ _. false) (λ right.
+    same_where (has_right S id page) (λ _. false) (λ right.
     has_right-record S id r page right other held
     ∙ and_left (reaches id r page && allows S id r page right) (has_right S r.parent (source_page r page) right)
     (and_left (reaches id r page) (allows S id r page right) (and_left (holds r.place page) (nat_lt r.parent.number id.number) out)))
@@ -37,7 +34,7 @@ rights_at-outside S id r page other held out =
 -- no rights in a space that has ended
 pub rights_at-ended : (S : State) (id : RecordId) (r : Record) (page : ℕ) → is_root id ≡ false → S.record_at id ≡ Some r → S.is_ended r.space ≡ true → rights_at S id page ≡ no_rights
 rights_at-ended S id r page other held over =
-    same_rights (has_right S id page) (λ _. false) (λ right.
+    same_where (has_right S id page) (λ _. false) (λ right.
     has_right-record S id r page right other held
     ∙ and_left (reaches id r page && allows S id r page right) (has_right S r.parent (source_page r page) right)
     (and_right (reaches id r page) (allows S id r page right)
@@ -46,12 +43,12 @@ rights_at-ended S id r page other held over =
 -- at the root, all that is not taken
 pub rights_at-root : (S : State) (id : RecordId) (page : ℕ) → is_root id ≡ true → is_page page ≡ true → rights_at S id page ≡ without all_rights (rights_where (S.is_cut id page))
 rights_at-root S id page top inside =
-    same_rights (has_right S id page) (λ right. true && not (S.is_cut id page right)) (λ right.
+    same_where (has_right S id page) (λ right. true && not (S.is_cut id page right)) (λ right.
     has_right-root S id page right top ∙ ap (λ (t : Bool). t && not (S.is_cut id page right)) inside)
 
 pub rights_at-beyond : (S : State) (id : RecordId) (page : ℕ) → is_root id ≡ true → is_page page ≡ false → rights_at S id page ≡ no_rights
 rights_at-beyond S id page top out =
-    same_rights (has_right S id page) (λ _. false) (λ right.
+    same_where (has_right S id page) (λ _. false) (λ right.
     has_right-root S id page right top ∙ ap (λ (t : Bool). t && not (S.is_cut id page right)) out)
 
 regroup : (l i k h : Bool) → (((l && i) && not k) && h) ≡ (l && (true && (i && not k && true) && h))
@@ -63,7 +60,7 @@ regroup true true false h = refl
 -- one step up
 pub rights_at-up : (S : State) (id : RecordId) (r : Record) (page : ℕ) (left : Rights) → is_root id ≡ false → S.record_at id ≡ Some r → reaches id r page ≡ true → S.is_ended r.space ≡ false → common (without (common left r.rights) (rights_where (S.is_cut id page))) (rights_at S r.parent (source_page r page)) ≡ common left (rights_at S id page)
 rights_at-up S id r page left other held reach open_still =
-    same_rights _ _ (λ right. at right)
+    same_where _ _ (λ right. at right)
   where
     step : (right : Right) → has_right S id page right ≡ (true && (includes r.rights right && not (S.is_cut id page right) && true) && has_right S r.parent (source_page r page) right)
     step right =

@@ -31,6 +31,7 @@ use Rattle.mapdb_rights.specs.Revoked.{IsRevoked}
 use Rattle.mapdb_rights.proofs.Rights.Revoked.{revoked_later}
 use Rattle.mapdb_rights.proofs.Rights.FramesFrom.{frames_later}
 use Rattle.mapdb_rights.proofs.Settling.Unsettling.{operations_unsettle}
+use Rattle.mapdb_facts.proofs.States.Newness.{first_of_none}
 
 pub left_by_op : (S before : State) (op : Op) (cached : Cached) (stack : List Stale) → S ≡ join before (said op) → AreRights before cached
     → ((id : RecordId) (page : ℕ) → Unsettles before op id page → IsPending stack id page) → AreSettledBut S cached stack
@@ -43,10 +44,6 @@ left_by_op S before op cached stack is are unsettled id page =
 -- frames stay after an operation
 pub frames_by_op : (S before : State) (op : Op) (changes : PageChanges) → S ≡ join before (said op) → AreFrames before changes → AreFrames S changes
 frames_by_op S before op changes is frames = subst (λ (T : State). AreFrames T changes) (sym is) (frames_later before (said op) changes frames)
-
-pub first_alone : (o : Option Record) → first_of o None ≡ o
-first_alone None = refl
-first_alone (Some r) = refl
 
 -- what is held stays so
 pub held_on : (S before : State) (T : State) → S ≡ join before T → (r : Record) → Holds before r → Holds S r
@@ -77,7 +74,7 @@ listed_alike S before T set is none are = record {
 }
   where
     alike : (id : RecordId) → before.record_at id ≡ S.record_at id
-    alike id = sym (first_alone (before.record_at id)) ∙ sym (ap (first_of (before.record_at id)) (none id)) ∙ sym (ap (λ (U : State). U.record_at id) is)
+    alike id = sym (first_of_none (before.record_at id)) ∙ sym (ap (first_of (before.record_at id)) (none id)) ∙ sym (ap (λ (U : State). U.record_at id) is)
 
 pub listed_by_cut : (S before : State) (cut : Revocation) (set : Places) → S ≡ join before (said (Cut cut)) → AreListed before set → AreListed S set
 listed_by_cut S before cut set is are = listed_alike S before (said (Cut cut)) set is (λ id. refl) are

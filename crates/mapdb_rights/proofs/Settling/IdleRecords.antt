@@ -22,8 +22,9 @@ use Rattle.mapdb_rights.specs.Meeting.{is_named}
 use Rattle.mapdb_rights.specs.Revoked.{IsRevoked, IsRevokedBelow}
 use Rattle.mapdb_rights.proofs.Lists.NamedRecords.{named_among, named_front, named_last, named_next}
 use Rattle.mapdb_rights.proofs.Rights.Revoked.{revoked_later}
-use Rattle.mapdb_rights.proofs.Settling.Followed.{first_alone, looked_at}
+use Rattle.mapdb_rights.proofs.Settling.Followed.{looked_at}
 use Rattle.mapdb_rights.proofs.Settling.LiveRecords.{none_has}
+use Rattle.mapdb_facts.proofs.States.Newness.{first_of_none}
 
 -- where no record came, what may go may still go, and what is listed stays listed
 pub idle_alike : (S before : State) (T : State) (cached : Cached) (set : Places) → S ≡ join before T → ((id : RecordId) → T.record_at id ≡ None) → HasIdle before cached set → HasIdle S cached set
@@ -42,7 +43,7 @@ idle_alike S before T cached set is none are r held = elim (are r (alike r.id �
     later s revoked = subst (λ (U : State). IsRevoked U s) (sym is) (revoked_later before T s revoked)
 
     alike : (id : RecordId) → before.record_at id ≡ S.record_at id
-    alike id = sym (first_alone (before.record_at id)) ∙ sym (ap (first_of (before.record_at id)) (none id)) ∙ sym (ap (λ (U : State). U.record_at id) is)
+    alike id = sym (first_of_none (before.record_at id)) ∙ sym (ap (first_of (before.record_at id)) (none id)) ∙ sym (ap (λ (U : State). U.record_at id) is)
 
 -- where the rights that were cached are others, and each name that had some is noted or has some
 pub idle_but : (S : State) (before cached : Cached) (names : List RecordId) (set : Places) → StayNoted before [] cached names → HasIdle S before set → HasIdleBut S cached names set

@@ -28,6 +28,7 @@ use Rattle.mapdb_rights.proofs.Rights.Revoked.{revoked_from, revoked_settled}
 use Rattle.mapdb_rights.proofs.Settling.Ended.{numbered_is_other}
 use Rattle.mapdb_rights.proofs.Settling.Pendings.{pending_either, weight-last}
 use Rattle.mapdb_rights.proofs.Rights.Settled.{settling_unsettles_children}
+use Rattle.mapdb_facts.proofs.RecordLemmas.SameRecords.{beq_itself}
 
 -- ---- which pages are covered
 
@@ -98,11 +99,7 @@ module _ (S : State) (old new : Cached) (id : RecordId) (first end : ℕ) (right
         ]
 
     rights_itself : (a : Rights) → same_rights a a ≡ true
-    rights_itself a = and_from (beq a.read a.read) _ (bool_itself a.read) (and_from (beq a.write a.write) (beq a.execute a.execute) (bool_itself a.write) (bool_itself a.execute))
-      where
-        bool_itself : (b : Bool) → beq b b ≡ true
-        bool_itself true = refl
-        bool_itself false = refl
+    rights_itself a = and_from (beq a.read a.read) _ (beq_itself a.read) (and_from (beq a.write a.write) (beq a.execute a.execute) (beq_itself a.write) (beq_itself a.execute))
 
     -- other rights stand only where some were written
     written_there : (other : RecordId) (page : ℕ) → same_rights (new other page) (old other page) ≡ false → covers id first end other page ≡ true

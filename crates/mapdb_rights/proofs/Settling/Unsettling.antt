@@ -2,11 +2,11 @@
 use Rattle.std.proofs.Common.{◌≡◌, ℕ, Bool, true, false, refl, sym, ap, ◌∙◌, inl, inr}
 use Rattle.std.specs.Prelude.{◌⊎◌, ◌&&◌, ◌||◌, not, nat_lt, Option, Some, None, if◌then◌else◌}
 use Rattle.std.proofs.lemmas.Bool.{and_left, and_right, cond-true, cond-false, cases_Bool}
+use mathlib.Core.Bool.{or-false, or-true}
 use Rattle.mapdb_fpage.specs.Bounds.{page_limit}
 use Rattle.mapdb_fpage.specs.Place.{holds, is_page}
-use Rattle.mapdb_fpage.specs.RightSets.{includes, is_empty, no_rights}
+use Rattle.mapdb_fpage.specs.RightSets.{includes, is_empty}
 use Rattle.mapdb_fpage.specs.declared.right_sets.Right.{Right}
-use Rattle.mapdb_fpage.specs.declared.right_sets.Rights.{Rights}
 use Rattle.mapdb_facts.specs.Names.{is_root, same_id, same_space}
 use Rattle.mapdb_facts.specs.State.{State, cuts, first_of, join, said}
 use Rattle.mapdb_facts.specs.declared.names.RecordId.{RecordId}
@@ -16,46 +16,10 @@ use Rattle.mapdb_facts.specs.declared.operations.Record.{Record}
 use Rattle.mapdb_facts.specs.declared.operations.Revocation.{Revocation}
 use Rattle.mapdb_lists.specs.Changes.{Cached}
 use Rattle.mapdb_rights.specs.Right.{allows, reaches, record_right, right_by, rights_at, source_page}
-use Rattle.mapdb_rights.proofs.Rights.Walk.{same_rights as from_each_right}
 use Rattle.mapdb_rights.specs.Caching.{AreRights, IsSettled, OperationsUnsettle, Unsettles}
 use Rattle.mapdb_rights.proofs.Rights.Settled.{exact_is_settled, tests}
-
-or_false : (b : Bool) → (b || false) ≡ b
-or_false true = refl
-or_false false = refl
-
-or_true : (b : Bool) → (b || true) ≡ true
-or_true true = refl
-or_true false = refl
-
-first_alone : (o : Option Record) → first_of o None ≡ o
-first_alone None = refl
-first_alone (Some r) = refl
-
--- no right is in an empty set
-empty_is_none : (rights : Rights) → is_empty rights ≡ true → rights ≡ no_rights
-empty_is_none rights h = λ i. record { read = none rights.read rights.write rights.execute h i; write = none_second rights.read rights.write rights.execute h i; execute = none_third rights.read rights.write rights.execute h i }
-  where
-    none : (a b c : Bool) → not (a || b || c) ≡ true → a ≡ false
-    none false b c h = refl
-    none true true true h = sym h
-    none true true false h = sym h
-    none true false true h = sym h
-    none true false false h = sym h
-
-    none_second : (a b c : Bool) → not (a || b || c) ≡ true → b ≡ false
-    none_second a false c h = refl
-    none_second true true true h = sym h
-    none_second true true false h = sym h
-    none_second false true true h = sym h
-    none_second false true false h = sym h
-
-    none_third : (a b c : Bool) → not (a || b || c) ≡ true → c ≡ false
-    none_third a b false h = refl
-    none_third true true true h = sym h
-    none_third true false true h = sym h
-    none_third false true true h = sym h
-    none_third false false true h = sym h
+use Rattle.mapdb_facts.proofs.Maps.CutRuns.{empty_none, same_where}
+use Rattle.mapdb_facts.proofs.States.Newness.{first_of_none}
 
 -- Two states that agree on a name at a page.
 module _ (f : RecordId → ℕ → Right → Bool) (S T : State) (id : RecordId) (page : ℕ) (right : Right) (same_cut : T.is_cut id page right ≡ S.is_cut id page right) where
@@ -80,7 +44,7 @@ module _ (S T : State) (cached : Cached) (are : AreRights S cached) (id : Record
   settled_by : ((right : Right) → right_by page_limit (tests cached) T id page right ≡ right_by page_limit (tests cached) S id page right) → IsSettled T cached id page
   settled_by same =
       exact_is_settled S cached are id page
-      ∙ from_each_right (right_by page_limit (tests cached) S id page) (right_by page_limit (tests cached) T id page) (λ right. sym (same right))
+      ∙ same_where (right_by page_limit (tests cached) S id page) (right_by page_limit (tests cached) T id page) (λ right. sym (same right))
 
 -- A record comes.
 module _ (S : State) (cached : Cached) (are : AreRights S cached) (r : Record) (id : RecordId) (page : ℕ) where
@@ -90,21 +54,21 @@ module _ (S : State) (cached : Cached) (are : AreRights S cached) (r : Record) (
   born_apart : same_id r.id id ≡ false → IsSettled Later cached id page
   born_apart other =
       settled_by S Later cached are id page (λ right.
-      by_looks (tests cached) S Later id page right (or_false (S.is_cut id page right))
-      (ap (first_of (S.record_at id)) (cond-false (same_id r.id id) (Some r) None other) ∙ first_alone (S.record_at id))
-      (λ s held. or_false (S.is_ended s.space)))
+      by_looks (tests cached) S Later id page right (or-false (S.is_cut id page right))
+      (ap (first_of (S.record_at id)) (cond-false (same_id r.id id) (Some r) None other) ∙ first_of_none (S.record_at id))
+      (λ s held. or-false (S.is_ended s.space)))
 
   born_again : (s : Record) → S.record_at id ≡ Some s → IsSettled Later cached id page
   born_again s held =
       settled_by S Later cached are id page (λ right.
-      by_looks (tests cached) S Later id page right (or_false (S.is_cut id page right))
+      by_looks (tests cached) S Later id page right (or-false (S.is_cut id page right))
       (ap (λ o. first_of o (if same_id r.id id then Some r else None)) held ∙ sym held)
-      (λ t other. or_false (S.is_ended t.space)))
+      (λ t other. or-false (S.is_ended t.space)))
 
   born_outside : S.record_at id ≡ None → same_id r.id id ≡ true → holds r.place page ≡ false → IsSettled Later cached id page
   born_outside none named out =
       settled_by S Later cached are id page (λ right.
-      by_parts (tests cached) S Later id page right (or_false (S.is_cut id page right))
+      by_parts (tests cached) S Later id page right (or-false (S.is_cut id page right))
       (ap (λ o. record_right (tests cached) Later id o page right)
       (ap (λ o. first_of o (if same_id r.id id then Some r else None)) none ∙ cond-true (same_id r.id id) (Some r) None named)
       ∙ and_left (reaches id r page && allows Later id r page right) (tests cached r.parent (source_page r page) right)
@@ -138,8 +102,8 @@ module _ (S : State) (cached : Cached) (are : AreRights S cached) (cut : Revocat
   cut_apart apart =
       settled_by S (join S (said (Cut cut))) cached are id page (λ right.
       by_looks (tests cached) S (join S (said (Cut cut))) id page right
-      (ap (λ (t : Bool). S.is_cut id page right || t) (apart right) ∙ or_false (S.is_cut id page right))
-      (first_alone (S.record_at id)) (λ s held. or_false (S.is_ended s.space)))
+      (ap (λ (t : Bool). S.is_cut id page right || t) (apart right) ∙ or-false (S.is_cut id page right))
+      (first_of_none (S.record_at id)) (λ s held. or-false (S.is_ended s.space)))
 
   pub cut_unsettles : IsSettled (join S (said (Cut cut))) cached id page ⊎ Unsettles S (Cut cut) id page
   cut_unsettles =
@@ -159,23 +123,23 @@ module _ (S : State) (cached : Cached) (are : AreRights S cached) (space : Space
   end_apart : ((r : Record) → S.record_at id ≡ Some r → same_space space r.space ≡ false) → IsSettled Ended cached id page
   end_apart apart =
       settled_by S Ended cached are id page (λ right.
-      by_looks (tests cached) S Ended id page right (or_false (S.is_cut id page right)) (first_alone (S.record_at id))
-      (λ r held. ap (λ (t : Bool). S.is_ended r.space || t) (apart r held) ∙ or_false (S.is_ended r.space)))
+      by_looks (tests cached) S Ended id page right (or-false (S.is_cut id page right)) (first_of_none (S.record_at id))
+      (λ r held. ap (λ (t : Bool). S.is_ended r.space || t) (apart r held) ∙ or-false (S.is_ended r.space)))
 
   end_root : is_root id ≡ true → IsSettled Ended cached id page
   end_root top =
       settled_by S Ended cached are id page (λ right.
-      cond-true (is_root id) _ _ top ∙ ap (λ (t : Bool). is_page page && not t) (or_false (S.is_cut id page right)) ∙ sym (cond-true (is_root id) _ _ top))
+      cond-true (is_root id) _ _ top ∙ ap (λ (t : Bool). is_page page && not t) (or-false (S.is_cut id page right)) ∙ sym (cond-true (is_root id) _ _ top))
 
   end_none : (r : Record) → is_root id ≡ false → S.record_at id ≡ Some r → same_space space r.space ≡ true → is_empty (rights_at S id page) ≡ true → IsSettled Ended cached id page
   end_none r other held same none =
-      are id page ∙ empty_is_none (rights_at S id page) none
-      ∙ from_each_right (λ _. false) (right_by page_limit (tests cached) Ended id page) (λ right. sym (
+      are id page ∙ empty_none (rights_at S id page) none
+      ∙ same_where (λ _. false) (right_by page_limit (tests cached) Ended id page) (λ right. sym (
       cond-false (is_root id) _ _ other
-      ∙ ap (λ o. record_right (tests cached) Ended id o page right) (first_alone (S.record_at id) ∙ held)
+      ∙ ap (λ o. record_right (tests cached) Ended id o page right) (first_of_none (S.record_at id) ∙ held)
       ∙ and_left (reaches id r page && allows Ended id r page right) (tests cached r.parent (source_page r page) right)
       (and_right (reaches id r page) (allows Ended id r page right)
-      (and_right (includes r.rights right && not (Ended.is_cut id page right)) (not (Ended.is_ended r.space)) (ap not (ap (λ (t : Bool). S.is_ended r.space || t) same ∙ or_true (S.is_ended r.space)))))))
+      (and_right (includes r.rights right && not (Ended.is_cut id page right)) (not (Ended.is_ended r.space)) (ap not (ap (λ (t : Bool). S.is_ended r.space || t) same ∙ or-true (S.is_ended r.space)))))))
 
   abbrev EndUnsettles : Type 0
   EndUnsettles = IsSettled Ended cached id page ⊎ Unsettles S (Closed space) id page

@@ -33,7 +33,7 @@ use Rattle.mapdb_rights.specs.Right.{rights_at}
 use Rattle.mapdb_rights.proofs.Rights.FramesOn.{shows_on}
 use Rattle.mapdb_rights.proofs.Live.LiveRecords.{into_held}
 use Rattle.mapdb_rights.proofs.Settling.Ended.{rights_in_place}
-use Rattle.mapdb_rights.proofs.Live.EmptyRights.{both_empty}
+use Rattle.mapdb_facts.proofs.Maps.CutRuns.{both_empty}
 
 -- what meets fewer pages meets more
 pub meets_more : (p : OwnPlace) (page least end : ℕ) → least ≤ end → own_meets p page least ≡ true → own_meets p page end ≡ true

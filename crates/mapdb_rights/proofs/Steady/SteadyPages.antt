@@ -18,7 +18,8 @@ use Rattle.mapdb_rights.specs.Frame.{frame_at}
 use Rattle.mapdb_rights.specs.Right.{has_right, reaches, source_page}
 use Rattle.mapdb_rights.specs.Steady.{GoesOn, IsSteady, frame_on}
 use Rattle.mapdb_rights.proofs.Rights.Steps.{frame_at-none, frame_at-root, has_right-record}
-use Rattle.mapdb_rights.proofs.Rights.Walk.{frame_at-outside, frame_at-up, rights_at-none, rights_at-outside, rights_at-root, same_rights}
+use Rattle.mapdb_rights.proofs.Rights.Walk.{frame_at-outside, frame_at-up, rights_at-none, rights_at-outside, rights_at-root}
+use Rattle.mapdb_facts.proofs.Maps.CutRuns.{same_where}
 
 -- the record goes on so over so many pages
 abbrev pub GoesOnFor : State → RecordId → ℕ → ℕ → Type 0
@@ -66,7 +67,7 @@ module _ (S : State) (id : RecordId) (page count : ℕ) where
       → cut_at S id (page + count) ≡ cut_at S id page → GoesOn S r.parent (source_page r page) count → GoesOn S id page count
   goes_on-up r other held reach same same_cut up =
       record {
-        rights = same_rights (has_right S id (page + count)) (has_right S id page) (λ right.
+        rights = same_where (has_right S id (page + count)) (has_right S id page) (λ right.
             has_right-record S id r (page + count) right other held
             ∙ alike (reaches id r (page + count)) (reaches id r page) (includes r.rights right) (S.is_cut id (page + count) right) (S.is_cut id page right) (S.is_ended r.space)
             (has_right S r.parent (source_page r (page + count)) right) (has_right S r.parent (source_page r page) right)

@@ -2,6 +2,7 @@
 use Rattle.std.proofs.Common.{◌≡◌, ℕ, zero, suc, ◌<◌, ◌≤◌, Bool, true, false, refl, sym, ap, ◌∙◌, arith, inl, inr, List, [], ◌∷◌}
 use Rattle.std.specs.Prelude.{◌&&◌, ◌||◌, nat_lt, not, Option}
 use Rattle.std.proofs.lemmas.Bool.{and_parts, and_from, cond-true, cond-false, cases_Bool}
+use mathlib.Core.Bool.{and-true}
 use Rattle.mapdb_fpage.specs.Place.{Place, holds, is_page}
 use Rattle.mapdb_fpage.specs.RightSets.{all_rights, includes}
 use Rattle.mapdb_fpage.specs.declared.right_sets.Right.{Right}
@@ -54,10 +55,6 @@ regrouped_last true true false true b true d same = refl
 regrouped_last true true false true b false d same = refl
 regrouped_last true true false false b true d same = refl
 
-with_true : (t : Bool) → (t && true) ≡ t
-with_true true = refl
-with_true false = refl
-
 module _ (S S' : State) (space : Space) (part : Place) (done : IsEndedState S S' space part) where
   less_root : (id : RecordId) (page : ℕ) (right : Right) → is_root id ≡ true → has_right S' id page right ≡ true → has_right S id page right ≡ true
   less_root id page right top h =
@@ -97,7 +94,7 @@ module _ (S S' : State) (space : Space) (part : Place) (done : IsEndedState S S'
       has_right-root S' id page right top
       ∙ ap (λ (c : Bool). is_page page && not c) (done.cuts id page right)
       ∙ sym (has_right-root S id page right top)
-      ∙ sym (with_true (has_right S id page right))
+      ∙ sym (and-true (has_right S id page right))
       ∙ ap (λ (t : Bool). has_right S id page right && not t) (sym missed)
     where
       missed : is_in_part space part spot ≡ false
@@ -127,7 +124,7 @@ module _ (S S' : State) (space : Space) (part : Place) (done : IsEndedState S S'
       among : same_space space r.space ≡ is_in_part space part spot
       among =
           sym (same_into S space r.space id own)
-          ∙ sym (with_true (is_into S space id))
+          ∙ sym (and-true (is_into S space id))
           ∙ ap (λ (t : Bool). is_into S space id && t) (sym (done.complete id r page held
           (and_parts (holds r.place page) (nat_lt r.parent.number id.number) reach).0))
           ∙ is_among_into S space part spot id page into at

@@ -1,6 +1,7 @@
 -- What the state of a copy keeps that hears from no other one.
-use Rattle.std.proofs.Common.{◌≡◌, ℕ, Bool, true, false, Some, refl, sym, ap, subst, List, [], ◌∷◌, inl, inr}
-use Rattle.std.specs.Prelude.{◌||◌, Option, None, IfSome}
+use Rattle.std.proofs.Common.{◌≡◌, ℕ, Bool, false, Some, refl, sym, ap, subst, List, [], ◌∷◌, inl, inr}
+use Rattle.std.specs.Prelude.{Option, None, IfSome}
+use Rattle.std.proofs.lemmas.Bool.{or_from}
 use Rattle.mapdb_fpage.specs.Place.{IsPlace, Place}
 use Rattle.mapdb_fpage.specs.Transfer.{transfer_of}
 use Rattle.mapdb_fpage.specs.declared.items.Transfer.{Transfer}
@@ -43,10 +44,6 @@ first_none : (a b : Option Record) → first_of a b ≡ None → a ≡ None
 first_none (Some r) b h = h
 first_none None b h = refl
 
-or_both : (a b : Bool) → a ≡ false → b ≡ false → (a || b) ≡ false
-or_both false b e f = f
-or_both true b e f = e
-
 settled_join : (S : State) (xs : List Op) → IsSettled S → ((r : Record) → HasAtom xs (Rec r) → NewRecord S r)
     → ((id : RecordId) (page : ℕ) (right : Right) → is_root id ≡ false → S.record_at id ≡ None → (state_of xs).is_cut id page right ≡ false)
     → IsSettled (join S (state_of xs))
@@ -63,7 +60,7 @@ settled_join S xs settled each uncut = record {
         (λ new same. known_more S (state_of xs) r.parent new.parent) h;
     targets = λ id page right other none.
         (let before : S.record_at id ≡ None = first_none (S.record_at id) ((state_of xs).record_at id) none in
-        or_both (S.is_cut id page right) ((state_of xs).is_cut id page right) (settled.grown.targets id page right other before)
+        or_from (S.is_cut id page right) ((state_of xs).is_cut id page right) (settled.grown.targets id page right other before)
         (uncut id page right other before));
   };
 }

@@ -1,22 +1,21 @@
 -- What the tree is after one command, beside the state.
 use Rattle.std.proofs.Common.{◌≡◌, ℕ, Bool, true, false, Some, refl, sym, ap, subst, ◌∙◌, List, [], ◌∷◌, inl, inr, arith}
-use Rattle.std.specs.Prelude.{◌||◌, Option, None, if◌then◌else◌, IfSome, zero, suc, nat_le, ◌<◌, ◌≤◌, ◌+◌, ◌⊎◌}
+use Rattle.std.specs.Prelude.{◌||◌, Option, None, if◌then◌else◌, IfSome, nat_le, ◌≤◌, ◌+◌, ◌⊎◌}
 use Rattle.std.proofs.lemmas.Bool.{lt-ltb, cases_Bool, cond-false, leb-true}
 use Rattle.std.proofs.lemmas.Bool.Decides.{nat_tests}
+use mathlib.Core.Bool.{or-false}
 use Rattle.mapdb_fpage.proofs.Meets.{holds_range}
 use Rattle.mapdb_fpage.specs.Bounds.{page_limit}
 use Rattle.mapdb_fpage.specs.Place.{IsPlace, Place, holds, page_total, whole}
 use Rattle.mapdb_fpage.specs.declared.items.Transfer.{Transfer}
 use Rattle.mapdb_fpage.specs.declared.right_sets.Rights.{Rights}
-use Rattle.mapdb_facts.proofs.Maps.Atoms.{same_state}
 use Rattle.mapdb_facts.proofs.Lists.SameNames.{same_space_true}
 use Rattle.mapdb_facts.specs.Names.{is_first_space, is_root_number, same_space}
 use Rattle.mapdb_facts.proofs.Lists.SameNames.{not_first_space}
-use Rattle.mapdb_facts.specs.State.{State, first_of, join, nothing, state_of}
+use Rattle.mapdb_facts.specs.State.{join, state_of}
 use Rattle.mapdb_facts.specs.declared.names.Space.{Space}
 use Rattle.mapdb_facts.specs.declared.operations.Op.{Op}
 use Rattle.mapdb_facts.specs.declared.operations.Op.TheVariants.{Closed}
-use Rattle.mapdb_facts.specs.declared.operations.Record.{Record}
 use Rattle.mapdb_replica.specs.Issue.{map_candidates}
 use Rattle.mapdb_replica.specs.Unmap.{unmap_candidates}
 use Rattle.mapdb_sequential.proofs.Lists.Ending.{shows_after_end}
@@ -33,24 +32,19 @@ use Rattle.mapdb_sequential.proofs.Lists.StateSteps.{IsEndedState, IsKept, IsTra
 use Rattle.mapdb_sequential.proofs.Unmaps.UnmapLists.{is_unmapped}
 use Rattle.mapdb_sequential.proofs.Unmaps.UnmapShown.{shows_after_unmap}
 use Rattle.mapdb_tree.specs.Steps.{AfterMap, AfterUnmap, AreSame, map_refusal, occupied_refusal}
-use Rattle.mapdb_tree.specs.Tree.{IsEnded, Tree, are_both, brought, is_occupied, least_page, occupied}
+use Rattle.mapdb_tree.specs.Tree.{IsEnded, Tree, are_both, brought, is_occupied, occupied}
 use Rattle.mapdb_tree.specs.declared.faults.TreeFault.{TreeFault}
 use Rattle.mapdb_tree.specs.declared.nodes.Page.{Page}
-
-first_of_none : (o : Option Record) → first_of o None ≡ o
-first_of_none (Some r) = refl
-first_of_none None = refl
-
-or_none : (b : Bool) → (b || false) ≡ b
-or_none true = refl
-or_none false = refl
+use Rattle.mapdb_tree.proofs.Least.{least-none}
+use Rattle.mapdb_facts.proofs.States.Joins.{join_nothing}
+use Rattle.mapdb_facts.proofs.States.Newness.{first_of_none}
 
 is_over_join : (ops : List Op) (space : Space) → IsFormed ops → is_first_space space ≡ false
     → IsEndedState (state_of ops) (join (state_of ops) (state_of (Closed space ∷ []))) space whole
 is_over_join ops space kept not_first = record {
   records = λ id. first_of_none ((state_of ops).record_at id);
-  cuts = λ id page right. or_none ((state_of ops).is_cut id page right);
-  ends = λ other. ap (λ (b : Bool). (state_of ops).is_ended other || b) (or_none (same_space space other));
+  cuts = λ id page right. or-false ((state_of ops).is_cut id page right);
+  ends = λ other. ap (λ (b : Bool). (state_of ops).is_ended other || b) (or-false (same_space space other));
   not_first = not_first;
   complete = λ id r page held inside. in_whole r.place page (kept.places id r held) inside;
 }
@@ -70,13 +64,9 @@ pub record Reflects (ops : List Op) (T : Tree) : Type 0 where
 unchanged : (ops : List Op) (T T' : Tree) → Reflects ops T → AreSame T T' → Reflects (issued ops []) T'
 unchanged ops T T' is same = record {
   ways = is.ways;
-  shows = subst (Shows is.ways) (sym (state_of_issued ops [] ∙ nothing_more (state_of ops))) is.shows;
+  shows = subst (Shows is.ways) (sym (state_of_issued ops [] ∙ join_nothing (state_of ops))) is.shows;
   like = short_same T T' is.ways is.like same;
 }
-  where
-    nothing_more : (S : State) → join S nothing ≡ S
-    nothing_more S = same_state (join S nothing) S (λ id. first_of_none (S.record_at id)) (λ id page right. or_none (S.is_cut id page right))
-        (λ space. or_none (S.is_ended space))
 
 -- a search that finds no page found none that passes
 not_first : (b : Bool) (first : ℕ) (rest : Option ℕ) → (if b then Some first else rest) ≡ None → (b ≡ false) × (rest ≡ None)
@@ -91,16 +81,6 @@ here_or_later first page low = elim (cases_Bool (nat_le page first)) [
   | inl here ↦ let le : page ≤ first = leb-true page first here in inl (omega arith)
   | inr behind ↦ inr (grind (arith, nat_tests))
 ]
-
-pub least_none : (first count : ℕ) (test : ℕ → Bool) → least_page first count test ≡ None → (page : ℕ) → first ≤ page → page < first + count
-    → test page ≡ false
-least_none first zero test e page low high = absurd (omega arith)
-least_none first (suc count) test e page low high =
-    let parts = not_first (test first) first (least_page (first + 1) count test) e in
-    elim (here_or_later first page low) [
-      | inl here ↦ ap test (sym here) ∙ parts.0
-      | inr later ↦ least_none (first + 1) count test parts.1 page later (omega arith)
-    ]
 
 -- what does not refuse
 pub not_refused : (b : Bool) (fault : TreeFault) (rest : Option TreeFault) → (if b then Some fault else rest) ≡ None
@@ -126,7 +106,7 @@ pub free_of : (T : Tree) (U : PathTree) → IsShort T U → (sender receiver : S
 free_of T U is sender receiver t none page into = elim (cases_Bool (holds t.target page.number)) [
   | inl inside ↦
       let range = holds_range t.target page.number inside in
-      let open_to = least_none t.target.first_page (page_total t.target) (is_occupied T sender t receiver) none page.number range.0 range.1 in
+      let open_to = least-none t.target.first_page (page_total t.target) (is_occupied T sender t receiver) none page.number range.0 range.1 in
       let there : record { space = receiver; number = page.number } ≡ page =
       (let same : receiver ≡ page.space = same_space_true receiver page.space into in λ i. record { space = same i; number = page.number }) in
       sym (both_short (path_brought U sender t.source t.target t.rights page.number) (U.node_at page))

@@ -13,17 +13,17 @@ use Rattle.mapdb_fpage.specs.declared.items.Transfer.{Transfer}
 use Rattle.mapdb_fpage.specs.declared.right_sets.Right.{Right}
 use Rattle.mapdb_fpage.specs.declared.right_sets.Rights.{Rights}
 use Rattle.mapdb_facts.proofs.RecordLemmas.Ascending.{after_at, after_from, ascending_records, before_other, listed_found}
-use Rattle.mapdb_facts.proofs.Maps.Atoms.{atom_kept, first_of_cases, record_held}
+use Rattle.mapdb_facts.proofs.Maps.Atoms.{atom_kept, first_of_cases, record_held, first_of_here}
 use Rattle.mapdb_facts.proofs.Lists.SameNames.{none_some, same_id_at, same_id_true}
 use Rattle.mapdb_facts.specs.Names.{is_before, is_first_space, is_root, root}
 use Rattle.mapdb_facts.specs.Records.{AllAfter, IsAmong, IsAscending, greatest_number, records_of}
-use Rattle.mapdb_facts.specs.State.{HasAtom, IsSound, Rec, State, first_of, join, state_of}
+use Rattle.mapdb_facts.specs.State.{HasAtom, IsSound, Rec, State, join, state_of}
 use Rattle.mapdb_facts.specs.declared.names.RecordId.{RecordId}
 use Rattle.mapdb_facts.specs.declared.names.Space.{Space}
 use Rattle.mapdb_facts.specs.declared.operations.Op.{Op}
 use Rattle.mapdb_facts.specs.declared.operations.Record.{Record}
 use Rattle.mapdb_replica.proofs.Maps.HolderNames.{ascending-holders}
-use Rattle.mapdb_replica.proofs.Calls.Issuing.{free_greatest}
+use Rattle.mapdb_replica.proofs.Calls.Issuing.{free_greatest, first_of_none}
 use Rattle.mapdb_replica.proofs.Pages.PairLaws.{right_in}
 use Rattle.mapdb_replica.specs.Issue.{holders, map_candidates, numbered_records, piece_of, piece_with, pieces, mapped_record}
 use Rattle.mapdb_replica.specs.declared.pieces.Holder.{Holder}
@@ -204,14 +204,6 @@ ascending_pieces S source rights (holder ∷ xs) order = pieces_step S source ri
 not_root : (number processor : ℕ) → 0 < number → is_root (record { number = number; processor = processor }) ≡ false
 not_root number processor h = grind (arith, nat_tests)
 
-first_of_here : (a b : Option Record) (r : Record) → a ≡ Some r → first_of a b ≡ Some r
-first_of_here (Some s) b r h = h
-first_of_here None b r h = absurd (none_some r h)
-
-first_of_later : (a b : Option Record) → a ≡ None → first_of a b ≡ b
-first_of_later (Some s) b h = absurd (none_some s (sym h))
-first_of_later None b h = refl
-
 or_false : (a b : Bool) → b ≡ false → (a || b) ≡ a
 or_false true b e = refl
 or_false false b e = e
@@ -283,7 +275,7 @@ module _ (ops : List Op) (kept : IsFormed ops) (processor : ℕ) (sender receive
 
   new_record : (id : RecordId) (r : Record) → (state_of ops).record_at id ≡ None → (join (state_of ops) (state_of all)).record_at id ≡ Some r
       → HasAtom all (Rec r) × (r.id ≡ id)
-  new_record id r fresh h = record_held all id r (sym (first_of_later ((state_of ops).record_at id) ((state_of all).record_at id) fresh) ∙ h)
+  new_record id r fresh h = record_held all id r (sym (first_of_none ((state_of ops).record_at id) ((state_of all).record_at id) fresh) ∙ h)
 
   ascending : IsAscending (λ (x : Piece). x.parent) parts
   unfolding pieces
@@ -352,7 +344,7 @@ module _ (ops : List Op) (kept : IsFormed ops) (processor : ℕ) (sender receive
         let is = born_piece found.0 piece.0 (omega (arith, found.1)) piece.1 in (
           r.id,
           r,
-          first_of_later ((state_of ops).record_at r.id) ((state_of all).record_at r.id) is.fresh
+          first_of_none ((state_of ops).record_at r.id) ((state_of all).record_at r.id) is.fresh
               ∙ atom_kept all (Rec r) (sound_made processor receiver transfer (greatest ops + 1) parts) found.2,
           is,
           piece.2,

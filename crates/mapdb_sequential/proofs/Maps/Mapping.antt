@@ -16,7 +16,7 @@ use Rattle.mapdb_facts.specs.declared.names.RecordId.{RecordId}
 use Rattle.mapdb_facts.specs.declared.names.Space.{Space}
 use Rattle.mapdb_facts.specs.declared.operations.Record.{Record}
 use Rattle.mapdb_rights.proofs.Rights.Steps.{earlier, has_right-record, has_right-root}
-use Rattle.mapdb_rights.proofs.Rights.Walk.{rights_at-outside, same_rights}
+use Rattle.mapdb_rights.proofs.Rights.Walk.{rights_at-outside}
 use Rattle.mapdb_rights.specs.PageRights.{is_into, is_record_into, lies_in, lies_in_record}
 use Rattle.mapdb_rights.specs.Right.{allows, has_right, reaches, rights_at, source_page}
 use Rattle.mapdb_replica.proofs.Unmaps.SharedPlaces.{number_behind}
@@ -26,6 +26,7 @@ use Rattle.mapdb_sequential.proofs.Trees.Showing.{ComesThrough, IsBare, IsHeldBy
 use Rattle.mapdb_replica.proofs.Copies.OpForms.{IsKnown}
 use Rattle.mapdb_sequential.proofs.Lists.StateSteps.{IsGrown, IsMappedState, IsPiece}
 use Rattle.mapdb_tree.specs.declared.nodes.Page.{Page}
+use Rattle.mapdb_facts.proofs.Maps.CutRuns.{same_where}
 
 module _ (S S' : State) (sender : Space) (source : Place) (receiver : Space) (target : Place) (rights : Rights) (grown : IsGrown S)
     (done : IsMappedState S S' sender source receiver target rights) where
@@ -63,7 +64,7 @@ module _ (S S' : State) (sender : Space) (source : Place) (receiver : Space) (ta
   kept_within (suc n) id page right below known = kept_known n id page right (λ q s lt there. kept_within n q s right (omega arith) there) known
 
   kept_rights_at : (id : RecordId) (page : ℕ) → IsKnown S id → rights_at S' id page ≡ rights_at S id page
-  kept_rights_at id page known = same_rights (has_right S' id page) (has_right S id page)
+  kept_rights_at id page known = same_where (has_right S' id page) (has_right S id page)
       (λ right. kept_within id.number id page right (omega arith) known)
 
   -- what is known stands where it stood
@@ -113,12 +114,6 @@ module _ (S S' : State) (sender : Space) (source : Place) (receiver : Space) (ta
             (sym (cond-false (is_root id) (is_first_space space) (is_record_into (S.record_at id) space) other) ∙ into)
       ]
 
-  turned : (a b : Bool) → (a && b) ≡ (b && a)
-  turned true true = refl
-  turned true false = refl
-  turned false true = refl
-  turned false false = refl
-
   -- a piece has what its parent has of the rights named
   piece_right : (id : RecordId) (r : Record) (page : ℕ) (right : Right) → S'.record_at id ≡ Some r
       → (piece : IsPiece S sender source receiver target rights id r) → holds r.place page ≡ true
@@ -142,7 +137,7 @@ module _ (S S' : State) (sender : Space) (source : Place) (receiver : Space) (ta
 
   piece_rights : (id : RecordId) (r : Record) (page : ℕ) → S'.record_at id ≡ Some r → (piece : IsPiece S sender source receiver target rights id r)
       → holds r.place page ≡ true → rights_at S' id page ≡ common (rights_at S r.parent (number_behind source target page)) rights
-  piece_rights id r page held piece inside = same_rights (has_right S' id page)
+  piece_rights id r page held piece inside = same_where (has_right S' id page)
       (λ right. includes (rights_at S r.parent (number_behind source target page)) right && includes rights right) each
     where
       each : (right : Right) → has_right S' id page right ≡ (includes (rights_at S r.parent (number_behind source target page)) right

@@ -9,12 +9,13 @@ use Rattle.mapdb_facts.specs.Names.{is_first_space, is_root, root}
 use Rattle.mapdb_facts.specs.State.{nothing}
 use Rattle.mapdb_facts.specs.declared.names.RecordId.{RecordId}
 use Rattle.mapdb_rights.proofs.Rights.Steps.{has_right-root}
-use Rattle.mapdb_rights.proofs.Rights.Walk.{rights_at-beyond, same_rights}
+use Rattle.mapdb_rights.proofs.Rights.Walk.{rights_at-beyond}
 use Rattle.mapdb_rights.specs.PageRights.{is_into}
 use Rattle.mapdb_rights.specs.Right.{has_right, rights_at}
 use Rattle.mapdb_sequential.proofs.Trees.PathTrees.{first_path_tree}
 use Rattle.mapdb_sequential.proofs.Trees.Showing.{IsBare, IsHeldBy, Shows, ShowsAt}
 use Rattle.mapdb_tree.specs.declared.nodes.Page.{Page}
+use Rattle.mapdb_facts.proofs.Maps.CutRuns.{same_where}
 
 -- only the root is into a space, the first
 root_alone : (spot : Page) (id : RecordId) → is_into nothing spot.space id ≡ true → (is_root id ≡ true) × (is_first_space spot.space ≡ true)
@@ -25,7 +26,7 @@ root_alone spot id into =
     ]
 
 all_at_root : (page : ℕ) → is_page page ≡ true → rights_at nothing root page ≡ all_rights
-all_at_root page inside = same_rights (has_right nothing root page) (λ _. true)
+all_at_root page inside = same_where (has_right nothing root page) (λ _. true)
     (λ right. has_right-root nothing root page right refl ∙ ap (λ (t : Bool). t && true) inside)
 
 first_held : (spot : Page) → is_first_space spot.space ≡ true → is_page spot.number ≡ true

@@ -1,12 +1,10 @@
 -- An Unmap, by what pages came from, is an Unmap of the tree of whole ways up.
 use Rattle.std.proofs.Common.{◌≡◌, ℕ, zero, suc, Bool, true, false, Some, refl, sym, ap, subst, ◌∙◌, List, [], ◌∷◌, inl, inr}
 use Rattle.std.specs.Prelude.{◌⊎◌, ◌&&◌, ◌||◌, not, Option, None, if◌then◌else◌}
-use Rattle.std.proofs.lemmas.Bool.{or_cases, and_parts, and_from, cond-false, false≢true, cases_Bool, cond-true}
-use Rattle.mapdb_fpage.proofs.Booleans.{or_left_true, or_right_true}
+use Rattle.std.proofs.lemmas.Bool.{or_cases, and_parts, and_from, cond-false, false≢true, cases_Bool, cond-true, or_right, or_left}
 use Rattle.mapdb_fpage.specs.Place.{Place, whole}
 use Rattle.mapdb_fpage.specs.RightSets.{all_rights, includes, is_empty, without}
 use Rattle.mapdb_fpage.specs.declared.right_sets.Right.{Right}
-use Rattle.mapdb_fpage.specs.declared.right_sets.Right.TheVariants.{Execute, Read, Write}
 use Rattle.mapdb_fpage.specs.declared.right_sets.Rights.{Rights}
 use Rattle.mapdb_facts.specs.Names.{same_space}
 use Rattle.mapdb_facts.specs.declared.names.Space.{Space}
@@ -17,15 +15,11 @@ use Rattle.mapdb_fpage.proofs.RightLemmas.{some_here, some_of}
 use Rattle.mapdb_tree.specs.Tree.{IsBelow, IsEnded, IsReached, IsUnmapped, LeadsTo, Tree, is_in_part, lessened, node_with}
 use Rattle.mapdb_tree.specs.declared.nodes.Node.{Node}
 use Rattle.mapdb_tree.specs.declared.nodes.Page.{Page}
+use Rattle.mapdb_facts.proofs.States.Newness.{without_is}
 
 -- what an Unmap leaves of rights
 abbrev left : Bool → Rights → Rights → Rights
 left b rights a = if b then without a rights else a
-
-without_is : (a rights : Rights) (right : Right) → includes (without a rights) right ≡ (includes a right && not (includes rights right))
-without_is a rights Read = refl
-without_is a rights Write = refl
-without_is a rights Execute = refl
 
 left_sub : (u v : Bool) (rights a c : Rights) → (u ≡ true → v ≡ true) → ((right : Right) → includes a right ≡ true → includes c right ≡ true)
     → (right : Right) → includes (left v rights a) right ≡ true → includes (left u rights c) right ≡ true
@@ -149,13 +143,13 @@ module _ (T : Tree) (U : PathTree) (is : IsShort T U) (space : Space) (part : Pl
       → is_in_part space part top ≡ true → goes_through space part node.above ≡ true
   leads_in zero page top node held (found, parent, at, from, same) among =
       let way = way_of page node found parent held at from in
-      ap (goes_through space part) way.1 ∙ or_left_true (is_in_part space part parent) (goes_through space part way.0)
+      ap (goes_through space part) way.1 ∙ or_left (is_in_part space part parent) (goes_through space part way.0)
       (ap (is_in_part space part) same ∙ among)
   leads_in (suc steps) page top node held (found, parent, at, from, leads) among =
       let way = way_of page node found parent held at from in
       let link = subst (IsLinked U node.rights) way.1 (is.ways.linked page node held) in
       ap (goes_through space part) way.1
-      ∙ or_right_true (is_in_part space part parent) (goes_through space part way.0)
+      ∙ or_right (is_in_part space part parent) (goes_through space part way.0)
       (ap (goes_through space part) (sym link.2) ∙ leads_in steps parent top link.0 link.1 leads among)
 
   -- and the way is gone along by parents
@@ -174,9 +168,9 @@ module _ (T : Tree) (U : PathTree) (is : IsShort T U) (space : Space) (part : Pl
   reached_in : (flush : Bool) (page : Page) (node : PathNode) → U.node_at page ≡ Some node → IsReached T space part flush page
       → is_path_reached space part flush page node ≡ true
   reached_in flush page node held (inl (steps, top, leads, among)) =
-      or_left_true (goes_through space part node.above) (flush && is_in_part space part page) (leads_in steps page top node held leads among)
+      or_left (goes_through space part node.above) (flush && is_in_part space part page) (leads_in steps page top node held leads among)
   reached_in flush page node held (inr (flushed, among)) =
-      or_right_true (goes_through space part node.above) (flush && is_in_part space part page) (and_from flush (is_in_part space part page) flushed among)
+      or_right (goes_through space part node.above) (flush && is_in_part space part page) (and_from flush (is_in_part space part page) flushed among)
 
   reached_out : (flush : Bool) (page : Page) (node : PathNode) → U.node_at page ≡ Some node → is_path_reached space part flush page node ≡ true
       → IsReached T space part flush page

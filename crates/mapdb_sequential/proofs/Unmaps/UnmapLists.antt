@@ -1,8 +1,8 @@
 -- The revocations that an Unmap may issue are that Unmap of the state.
 use Rattle.std.proofs.Common.{◌≡◌, ℕ, Bool, true, false, Some, refl, sym, ap, subst, ◌∙◌, List, inl, inr, arith}
 use Rattle.std.specs.Prelude.{◌⊎◌, ◌&&◌, ◌||◌, nat_lt, Option, None}
-use Rattle.std.proofs.lemmas.Bool.{and_parts, and_from, or_cases, cond-true, cond-false, false≢true, lt-ltb}
-use Rattle.mapdb_fpage.proofs.Booleans.{or_left_true, or_right_true, same_test}
+use Rattle.std.proofs.lemmas.Bool.{and_parts, and_from, or_cases, cond-true, cond-false, false≢true, lt-ltb, or_right, or_left}
+use Rattle.mapdb_fpage.proofs.Booleans.{same_test}
 use Rattle.mapdb_fpage.proofs.Meets.{holds_range}
 use Rattle.mapdb_fpage.specs.Bounds.{page_limit}
 use Rattle.mapdb_fpage.specs.Place.{IsPlace, Place, holds, whole}
@@ -53,13 +53,13 @@ module _ (ops : List Op) (kept : IsFormed ops) (space : Space) (part : Place) (p
           || (flush && (is_into (state_of ops) space id && holds part page))) ≡ true
       either (inl (s, child)) =
           let same : s ≡ r = some_same s r (sym child.held ∙ held) in
-          or_left_true (is_into (state_of ops) space r.parent && holds part (source_page r page))
+          or_left (is_into (state_of ops) space r.parent && holds part (source_page r page))
           (flush && (is_into (state_of ops) space id && holds part page))
           (subst (λ (x : Record). (is_into (state_of ops) space x.parent && holds part (source_page x page)) ≡ true) same
           (and_from (is_into (state_of ops) space s.parent) (holds part (source_page s page))
           (ap (is_into (state_of ops) space) child.parent ∙ taken.into) child.from_part))
       either (inr own) =
-          or_right_true (is_into (state_of ops) space r.parent && holds part (source_page r page))
+          or_right (is_into (state_of ops) space r.parent && holds part (source_page r page))
           (flush && (is_into (state_of ops) space id && holds part page))
           (and_from flush (is_into (state_of ops) space id && holds part page) own.flushed
           (and_from (is_into (state_of ops) space id) (holds part page) (ap (is_into (state_of ops) space) own.is ∙ taken.into) own.in_part))
@@ -164,7 +164,7 @@ module _ (ops : List Op) (kept : IsFormed ops) (space : Space) (part : Place) (p
         (no_records id);
     ends = λ other. or_false ((state_of ops).is_ended other) ((state_of (unmap_candidates ops space (Some part) rights flush)).is_ended other)
         (no_ends other);
-    kept = λ id page right h. or_left_true ((state_of ops).is_cut id page right)
+    kept = λ id page right h. or_left ((state_of ops).is_cut id page right)
         ((state_of (unmap_candidates ops space (Some part) rights flush)).is_cut id page right) h;
     at_root = λ id page right top. ap (λ (b : Bool). (state_of ops).is_cut id page right || b)
         (either_cut id page right (is_hit rights right (flush && (is_first_space space && holds part page))) (root_hit id page right top)

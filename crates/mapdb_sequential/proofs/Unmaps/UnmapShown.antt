@@ -2,6 +2,7 @@
 use Rattle.std.proofs.Common.{◌≡◌, ℕ, zero, suc, ◌<◌, ◌≤◌, Bool, true, false, Some, refl, sym, ap, subst, ◌∙◌, arith, inl, inr, List, [], ◌∷◌}
 use Rattle.std.specs.Prelude.{◌&&◌, not, Option, None, if◌then◌else◌}
 use Rattle.std.proofs.lemmas.Bool.{and_parts, and_from, cond-true, cond-false, cases_Bool, false≢true}
+use mathlib.Core.Bool.{and-false, and-true}
 use Rattle.mapdb_fpage.specs.Place.{Place, is_page}
 use Rattle.mapdb_fpage.specs.RightSets.{includes, is_empty, without}
 use Rattle.mapdb_fpage.specs.declared.right_sets.Right.{Right}
@@ -14,7 +15,6 @@ use Rattle.mapdb_facts.specs.declared.names.Space.{Space}
 use Rattle.mapdb_facts.specs.declared.operations.Record.{Record}
 use Rattle.mapdb_rights.proofs.Rights.Backed.{backing}
 use Rattle.mapdb_rights.proofs.Rights.Steps.{earlier, has_right-record, has_right-root}
-use Rattle.mapdb_rights.proofs.Rights.Walk.{same_rights}
 use Rattle.mapdb_rights.specs.PageRights.{is_into, is_record_into, lies_in, lies_in_record}
 use Rattle.mapdb_rights.specs.Right.{allows, has_right, reaches, rights_at, source_page}
 use Rattle.mapdb_sequential.proofs.Trees.PathTrees.{PathNode, PathTree, is_path_reached, path_after_unmap, path_unmapped, path_with}
@@ -23,6 +23,7 @@ use Rattle.mapdb_sequential.proofs.Trees.Showing.{ComesThrough, IsBare, IsHeldBy
 use Rattle.mapdb_sequential.proofs.Lists.StateSteps.{IsTaken, IsUnmappedState}
 use Rattle.mapdb_sequential.proofs.Unmaps.Unmapping.{has_right-unmapped}
 use Rattle.mapdb_tree.specs.declared.nodes.Page.{Page}
+use Rattle.mapdb_facts.proofs.Maps.CutRuns.{same_where}
 
 not_kept : (c d : Bool) → (c ≡ true → d ≡ true) → not d ≡ true → not c ≡ true
 not_kept false d keeps h = refl
@@ -113,7 +114,7 @@ module _ (S S' : State) (space : Space) (part : Place) (rights : Rights) (flush 
 
   taken_rights : (node : PathNode) (spot : Page) (id : RecordId) → IsHeldBy S spot node id → is_path_reached space part flush spot node ≡ true
       → rights_at S' id spot.number ≡ without node.rights rights
-  taken_rights node spot id held reached = same_rights (has_right S' id spot.number)
+  taken_rights node spot id held reached = same_where (has_right S' id spot.number)
       (λ right. includes node.rights right && not (includes rights right)) each
     where
       after : (right : Right) → has_right S' id spot.number right ≡ (has_right S id spot.number right && not (includes rights right && true))
@@ -121,13 +122,9 @@ module _ (S S' : State) (space : Space) (part : Place) (rights : Rights) (flush 
           done.without_hits id spot.number node.frame node.above spot right held.through held.into refl
           ∙ ap (λ (t : Bool). has_right S id spot.number right && not (includes rights right && t)) reached
 
-      whole : (t : Bool) → (t && true) ≡ t
-      whole true = refl
-      whole false = refl
-
       step : (right : Right) → has_right S id spot.number right ≡ includes node.rights right
           → has_right S' id spot.number right ≡ (includes node.rights right && not (includes rights right))
-      step right had = after right ∙ (λ i. had i && not (whole (includes rights right) i))
+      step right had = after right ∙ (λ i. had i && not (and-true (includes rights right) i))
 
       each : (right : Right) → has_right S' id spot.number right ≡ (includes node.rights right && not (includes rights right))
       each Read = step Read (ap (λ (a : Rights). a.read) held.rights)
@@ -136,22 +133,14 @@ module _ (S S' : State) (space : Space) (part : Place) (rights : Rights) (flush 
 
   kept_rights : (node : PathNode) (spot : Page) (id : RecordId) → IsHeldBy S spot node id → is_path_reached space part flush spot node ≡ false
       → rights_at S' id spot.number ≡ node.rights
-  kept_rights node spot id held missed = same_rights (has_right S' id spot.number) (has_right S id spot.number) each ∙ held.rights
+  kept_rights node spot id held missed = same_where (has_right S' id spot.number) (has_right S id spot.number) each ∙ held.rights
     where
-      whole : (t : Bool) → (t && true) ≡ t
-      whole true = refl
-      whole false = refl
-
-      nothing : (t : Bool) → (t && false) ≡ false
-      nothing true = refl
-      nothing false = refl
-
       each : (right : Right) → has_right S' id spot.number right ≡ has_right S id spot.number right
       each right =
           done.without_hits id spot.number node.frame node.above spot right held.through held.into refl
           ∙ ap (λ (t : Bool). has_right S id spot.number right && not (includes rights right && t)) missed
-          ∙ ap (λ (t : Bool). has_right S id spot.number right && not t) (nothing (includes rights right))
-          ∙ whole (has_right S id spot.number right)
+          ∙ ap (λ (t : Bool). has_right S id spot.number right && not t) (and-false (includes rights right))
+          ∙ and-true (has_right S id spot.number right)
 
   -- who else has nothing has nothing after
   alone_after : (node : PathNode) (spot : Page) (id : RecordId) → IsHeldBy S spot node id → (other : RecordId) → is_into S' spot.space other ≡ true

@@ -1,15 +1,13 @@
 -- The names that have revocations follow from the state.
-use Rattle.std.proofs.Common.{◌≡◌, ℕ, ◌+◌, ◌-◌, ◌<◌, Bool, true, false, refl, sym, ap, subst, ◌∙◌, List, [], ◌∷◌, inl, inr, arith}
+use Rattle.std.proofs.Common.{◌≡◌, ℕ, ◌+◌, ◌-◌, ◌<◌, true, false, refl, sym, subst, List, [], ◌∷◌, inl, inr, arith}
 use Rattle.std.specs.Prelude.{◌⊎◌, ◌&&◌, ◌||◌, nat_le, nat_lt, if◌then◌else◌}
 use Rattle.std.proofs.lemmas.Bool.Decides.{nat_tests}
-use Rattle.std.proofs.lemmas.Bool.{and_from, and_parts, cond-false, cond_both, false≢true}
+use Rattle.std.proofs.lemmas.Bool.{and_from, and_parts, cond-false, cond_both, false≢true, or_left, or_right}
 use Rattle.std.proofs.lemmas.Nat.{pow_pos}
 use Rattle.mapdb_fpage.specs.Bounds.{least_order}
 use Rattle.mapdb_fpage.specs.Place.{Place, holds, page_total}
 use Rattle.mapdb_fpage.specs.RightSets.{includes, is_empty}
 use Rattle.mapdb_fpage.specs.declared.right_sets.Right.{Right}
-use Rattle.mapdb_fpage.specs.declared.right_sets.Right.TheVariants.{Execute, Read, Write}
-use Rattle.mapdb_fpage.specs.declared.right_sets.Rights.{Rights}
 use Rattle.mapdb_facts.specs.Names.{is_before, same_id}
 use Rattle.mapdb_facts.specs.Records.{AllAfter, IsAmong, IsAscending}
 use Rattle.mapdb_facts.specs.State.{State, cuts, state_of}
@@ -21,6 +19,9 @@ use Rattle.mapdb_facts.proofs.RecordLemmas.Ascending.{after_trans, before_else}
 use Rattle.mapdb_facts.proofs.Lists.SameNames.{same_id_itself, same_id_true}
 use Rattle.mapdb_snapshot.specs.Cutting.{cut_names, placed_name}
 use Rattle.mapdb_facts.proofs.Lists.SameLists.{same_lists}
+use Rattle.mapdb_rights.proofs.Live.FirstRecords.{either}
+use Rattle.mapdb_fpage.proofs.RightLemmas.{some_here, some_of}
+use Rattle.mapdb_snapshot.proofs.Names.NamesComeBack.{among_placed_name}
 
 -- names are ordered by themselves
 abbrev itself : RecordId → RecordId
@@ -53,25 +54,6 @@ ascending_names (Cut cut ∷ ops) =
     cond_both (is_empty cut.rights) (cut_names ops) (placed_name cut.target (cut_names ops)) (IsAscending itself) (λ e. ascending_names ops)
     (λ e. ascending_name cut.target (cut_names ops) (ascending_names ops))
 
--- the members
-among_placed : (id other : RecordId) (names : List RecordId) → IsAmong other (placed_name id names) → (id ≡ other) ⊎ IsAmong other names
-among_placed id other [] k = k
-among_placed id other (head ∷ rest) k =
-    cond_both (is_before head id) (head ∷ placed_name id rest) (if same_id id head then head ∷ rest else id ∷ head ∷ rest)
-    (λ names. IsAmong other names → (id ≡ other) ⊎ IsAmong other (head ∷ rest))
-    (λ b. behind_head (among_placed id other rest))
-    (λ b. cond_both (same_id id head) (head ∷ rest) (id ∷ head ∷ rest)
-    (λ names. IsAmong other names → (id ≡ other) ⊎ IsAmong other (head ∷ rest)) (λ s m. inr m) (λ s m. m)) k
-  where
-    placed_or : (id ≡ other) ⊎ IsAmong other rest → (id ≡ other) ⊎ IsAmong other (head ∷ rest)
-    placed_or (inl e) = inl e
-    placed_or (inr m) = inr (inr m)
-
-    behind_head : (IsAmong other (placed_name id rest) → (id ≡ other) ⊎ IsAmong other rest) → IsAmong other (head ∷ placed_name id rest)
-        → (id ≡ other) ⊎ IsAmong other (head ∷ rest)
-    behind_head again (inl e) = inr (inl e)
-    behind_head again (inr m) = placed_or (again m)
-
 placed_among : (id : RecordId) (names : List RecordId) → IsAmong id (placed_name id names)
 placed_among id [] = inl refl
 placed_among id (head ∷ rest) =
@@ -96,52 +78,20 @@ still_among id other (head ∷ rest) k =
 abbrev HasCut : State → RecordId → Type 0
 HasCut S id = (page : ℕ) × (right : Right) × (S.is_cut id page right ≡ true)
 
-some_right : (rights : Rights) → is_empty rights ≡ false → (right : Right) × (includes rights right ≡ true)
-some_right rights some = by rights.read rights.write rights.execute refl refl refl
-  where
-    by : (r w x : Bool) → rights.read ≡ r → rights.write ≡ w → rights.execute ≡ x → (right : Right) × (includes rights right ≡ true)
-    by true w x e f g = (Read, e)
-    by false true x e f g = (Write, f)
-    by false false true e f g = (Execute, g)
-    by false false false e f g = absurd (false≢true (sym some ∙ (λ i. is_empty (record { read = e i; write = f i; execute = g i }))))
-
-not_empty : (rights : Rights) (right : Right) → includes rights right ≡ true → is_empty rights ≡ false
-not_empty rights right has = by rights.read rights.write rights.execute refl refl refl right has
-  where
-    by : (r w x : Bool) → rights.read ≡ r → rights.write ≡ w → rights.execute ≡ x → (which : Right) → includes rights which ≡ true
-        → is_empty rights ≡ false
-    by true w x e f g which h = λ i. is_empty (record { read = e i; write = f i; execute = g i })
-    by false true x e f g which h = λ i. is_empty (record { read = e i; write = f i; execute = g i })
-    by false false true e f g which h = λ i. is_empty (record { read = e i; write = f i; execute = g i })
-    by false false false e f g Read h = absurd (false≢true (sym e ∙ h))
-    by false false false e f g Write h = absurd (false≢true (sym f ∙ h))
-    by false false false e f g Execute h = absurd (false≢true (sym g ∙ h))
-
 to_itself : (first total : ℕ) → 0 < total → (nat_le first first && nat_lt first (first + total)) ≡ true
 to_itself first total some = grind (arith, nat_tests)
 
 first_held : (part : Place) → holds part part.first_page ≡ true
 first_held part = let some : 0 < page_total part = pow_pos (part.order - least_order) in to_itself part.first_page (page_total part) some
 
-or_first : (a b : Bool) → a ≡ true → (a || b) ≡ true
-or_first a b h = ap (λ x. x || b) h
-
-pub or_second : (a b : Bool) → b ≡ true → (a || b) ≡ true
-or_second true b h = refl
-or_second false b h = h
-
-pub or_cases : (a b : Bool) → (a || b) ≡ true → (a ≡ true) ⊎ (b ≡ true)
-or_cases true b h = inl refl
-or_cases false b h = inr h
-
 -- a revocation of some right takes it at its first page
 takes_some : (cut : Revocation) (id : RecordId) (S : State) → is_empty cut.rights ≡ false → cut.target ≡ id
     → (page : ℕ) × (right : Right) × ((cuts cut id page right || S.is_cut id page right) ≡ true)
 takes_some cut id S some same =
-    let right = some_right cut.rights some in (
+    let right = some_of cut.rights some in (
       cut.part.first_page,
       right.0,
-      or_first (cuts cut id cut.part.first_page right.0) (S.is_cut id cut.part.first_page right.0)
+      or_left (cuts cut id cut.part.first_page right.0) (S.is_cut id cut.part.first_page right.0)
           (and_from (same_id cut.target id && holds cut.part cut.part.first_page) (includes cut.rights right.0)
           (and_from (same_id cut.target id) (holds cut.part cut.part.first_page)
           (subst (λ (other : RecordId). same_id cut.target other ≡ true) same (same_id_itself cut.target)) (first_held cut.part))
@@ -150,7 +100,7 @@ takes_some cut id S some same =
 
 takes_later : (cut : Revocation) (id : RecordId) (S : State) → HasCut S id
     → (page : ℕ) × (right : Right) × ((cuts cut id page right || S.is_cut id page right) ≡ true)
-takes_later cut id S has = (has.0, has.1, or_second (cuts cut id has.0 has.1) (S.is_cut id has.0 has.1) has.2)
+takes_later cut id S has = (has.0, has.1, or_right (cuts cut id has.0 has.1) (S.is_cut id has.0 has.1) has.2)
 
 names_cut : (ops : List Op) (id : RecordId) → IsAmong id (cut_names ops) → HasCut (state_of ops) id
 names_cut [] id k = absurd k
@@ -160,7 +110,7 @@ names_cut (Cut cut ∷ ops) id k =
     cond_both (is_empty cut.rights) (cut_names ops) (placed_name cut.target (cut_names ops))
     (λ names. IsAmong id names → HasCut (state_of (Cut cut ∷ ops)) id)
     (λ e m. takes_later cut id (state_of ops) (names_cut ops id m))
-    (λ e m. here_or_later (names_cut ops id) e (among_placed cut.target id (cut_names ops) m)) k
+    (λ e m. here_or_later (names_cut ops id) e (among_placed_name cut.target id (cut_names ops) m)) k
   where
     here_or_later : (IsAmong id (cut_names ops) → HasCut (state_of ops) id) → is_empty cut.rights ≡ false
         → (cut.target ≡ id) ⊎ IsAmong id (cut_names ops) → HasCut (state_of (Cut cut ∷ ops)) id
@@ -173,7 +123,7 @@ cut_named [] id page right h = absurd (false≢true h)
 cut_named (Born r ∷ ops) id page right h = cut_named ops id page right h
 cut_named (Closed space ∷ ops) id page right h = cut_named ops id page right h
 cut_named (Cut cut ∷ ops) id page right h = by (cut_named ops id page right)
-    (or_cases (cuts cut id page right) ((state_of ops).is_cut id page right) h)
+    (either (cuts cut id page right) ((state_of ops).is_cut id page right) h)
   where
     by : ((state_of ops).is_cut id page right ≡ true → IsAmong id (cut_names ops))
         → (cuts cut id page right ≡ true) ⊎ ((state_of ops).is_cut id page right ≡ true) → IsAmong id (cut_names (Cut cut ∷ ops))
@@ -181,7 +131,7 @@ cut_named (Cut cut ∷ ops) id page right h = by (cut_named ops id page right)
         let parts = and_parts (same_id cut.target id && holds cut.part page) (includes cut.rights right) now in
         let named = (and_parts (same_id cut.target id) (holds cut.part page) parts.0).0 in
         subst (IsAmong id) (sym (cond-false (is_empty cut.rights) (cut_names ops) (placed_name cut.target (cut_names ops))
-        (not_empty cut.rights right parts.1)))
+        (some_here cut.rights right parts.1)))
         (subst (λ (other : RecordId). IsAmong other (placed_name cut.target (cut_names ops))) (same_id_true cut.target id named)
         (placed_among cut.target (cut_names ops)))
     by again (inr later) =

@@ -1,7 +1,7 @@
 -- The spaces that have ended follow from the state.
 use Rattle.std.proofs.Common.{◌≡◌, true, sym, ap, subst, List, [], ◌∷◌, inl, inr}
 use Rattle.std.specs.Prelude.{◌⊎◌, ◌||◌}
-use Rattle.std.proofs.lemmas.Bool.{false≢true}
+use Rattle.std.proofs.lemmas.Bool.{false≢true, or_right}
 use Rattle.mapdb_facts.specs.Exact.{exact_space}
 use Rattle.mapdb_facts.specs.Names.{same_space}
 use Rattle.mapdb_facts.specs.Records.{IsAmong, IsAscending}
@@ -14,7 +14,7 @@ use Rattle.mapdb_facts.proofs.Lists.SameNames.{same_space_itself}
 use Rattle.mapdb_facts.proofs.Maps.Spaces.{among_placed, ascending_space, placed_among, still_among}
 use Rattle.mapdb_facts.specs.Spaces.{numbered, placed_space}
 use Rattle.mapdb_snapshot.specs.Snapshot.{ended_of}
-use Rattle.mapdb_snapshot.proofs.Names.CutNames.{or_cases, or_second}
+use Rattle.mapdb_rights.proofs.Live.FirstRecords.{either}
 
 ascending_spaces : (ops : List Op) → IsAscending numbered (ended_of ops)
 ascending_spaces [] = tt
@@ -32,14 +32,14 @@ spaces_ended (Closed closed ∷ ops) space k = by (spaces_ended ops space) (amon
         → (same_space closed space || (state_of ops).is_ended space) ≡ true
     by again (inl e) = ap (λ x. x || (state_of ops).is_ended space) (subst (λ (other : Space). same_space closed other
         ≡ true) e (same_space_itself closed))
-    by again (inr m) = or_second (same_space closed space) ((state_of ops).is_ended space) (again m)
+    by again (inr m) = or_right (same_space closed space) ((state_of ops).is_ended space) (again m)
 
 ended_there : (ops : List Op) (space : Space) → (state_of ops).is_ended space ≡ true → IsAmong space (ended_of ops)
 ended_there [] space h = absurd (false≢true h)
 ended_there (Born r ∷ ops) space h = ended_there ops space h
 ended_there (Cut cut ∷ ops) space h = ended_there ops space h
 ended_there (Closed closed ∷ ops) space h = by (ended_there ops space)
-    (or_cases (same_space closed space) ((state_of ops).is_ended space) h)
+    (either (same_space closed space) ((state_of ops).is_ended space) h)
   where
     by : ((state_of ops).is_ended space ≡ true → IsAmong space (ended_of ops))
         → (same_space closed space ≡ true) ⊎ ((state_of ops).is_ended space ≡ true) → IsAmong space (placed_space closed (ended_of ops))

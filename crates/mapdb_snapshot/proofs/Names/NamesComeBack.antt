@@ -21,6 +21,7 @@ use Rattle.mapdb_snapshot.specs.Cutting.{cut_names, placed_name}
 use Rattle.mapdb_snapshot.specs.Snapshot.{ended_of}
 use Rattle.mapdb_snapshot.proofs.Places.CutsComeBack.{cut_parts}
 use Rattle.mapdb_snapshot.proofs.Places.RunsCover.{empty_excludes}
+use Rattle.mapdb_facts.proofs.Maps.Spaces.{among_placed}
 
 -- a value of a list, which stands where a test says
 module _ {X : Type 0} where
@@ -44,7 +45,7 @@ module _ {X : Type 0} where
   choice_among x y first rest behind false true is later (inr h) = h
   choice_among x y first rest behind false false is later h = h
 
-among_placed_name : (id other : RecordId) (ids : List RecordId) → IsAmong other (placed_name id ids) → (id ≡ other) ⊎ IsAmong other ids
+pub among_placed_name : (id other : RecordId) (ids : List RecordId) → IsAmong other (placed_name id ids) → (id ≡ other) ⊎ IsAmong other ids
 among_placed_name id other [] h = h
 among_placed_name id other (first ∷ rest) h =
     among_choice id other first rest (placed_name id rest) (is_before first id) (same_id id first) (among_placed_name id other rest) h
@@ -54,13 +55,6 @@ placed_name_among id other [] h = h
 placed_name_among id other (first ∷ rest) h =
     choice_among id other first rest (placed_name id rest) (is_before first id) (same_id id first) (same_id_true id first)
     (placed_name_among id other rest) h
-
-among_placed_space : (space other : Space) (spaces : List Space) → IsAmong other (placed_space space spaces)
-    → (space ≡ other) ⊎ IsAmong other spaces
-among_placed_space space other [] h = h
-among_placed_space space other (first ∷ rest) h =
-    among_choice space other first rest (placed_space space rest) (is_space_before first space) (same_space space first)
-    (among_placed_space space other rest) h
 
 placed_space_among : (space other : Space) (spaces : List Space) → (space ≡ other) ⊎ IsAmong other spaces
     → IsAmong other (placed_space space spaces)
@@ -119,7 +113,7 @@ pub ended_atom : (ops : List Op) (space : Space) → IsAmong space (ended_of ops
 ended_atom [] space h = h
 ended_atom (Born r ∷ ops) space h = inr (ended_atom ops space h)
 ended_atom (Cut cut ∷ ops) space h = inr (ended_atom ops space h)
-ended_atom (Closed other ∷ ops) space h = elim (among_placed_space other space (ended_of ops) h) [
+ended_atom (Closed other ∷ ops) space h = elim (among_placed other space (ended_of ops) h) [
   | inl same ↦ inl same
   | inr later ↦ inr (ended_atom ops space later)
 ]

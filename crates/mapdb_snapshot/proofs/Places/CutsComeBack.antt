@@ -1,12 +1,11 @@
 -- The revocations of a snapshot take exactly the rights that are revoked.
-use Rattle.std.proofs.Common.{◌≡◌, ℕ, ◌+◌, ◌<◌, ◌≤◌, Bool, true, refl, sym, ap, subst, ◌∙◌, List, [], ◌∷◌, ◌++◌, map, inl, inr, arith}
+use Rattle.std.proofs.Common.{◌≡◌, ℕ, ◌+◌, ◌<◌, ◌≤◌, true, refl, sym, ap, subst, ◌∙◌, List, [], ◌∷◌, ◌++◌, map, inl, inr, arith}
 use Rattle.std.specs.Prelude.{◌&&◌, ◌⊎◌}
 use Rattle.std.proofs.lemmas.Bool.{and_from, and_parts}
 use Rattle.mapdb_fpage.specs.Bounds.{page_limit}
 use Rattle.mapdb_fpage.specs.Place.{IsPlace, Place, holds}
-use Rattle.mapdb_fpage.specs.RightSets.{includes, rights_where}
+use Rattle.mapdb_fpage.specs.RightSets.{includes}
 use Rattle.mapdb_fpage.specs.declared.right_sets.Right.{Right}
-use Rattle.mapdb_fpage.specs.declared.right_sets.Right.TheVariants.{Read, Write, Execute}
 use Rattle.mapdb_fpage.specs.declared.right_sets.Rights.{Rights}
 use Rattle.mapdb_facts.specs.Names.{same_id}
 use Rattle.mapdb_facts.specs.Records.{IsAmong}
@@ -21,6 +20,7 @@ use Rattle.mapdb_facts.proofs.Lists.SameNames.{same_id_itself, same_id_true}
 use Rattle.mapdb_snapshot.specs.Cutting.{cuts_of_names, cuts_of_run, cuts_of_runs, places_of}
 use Rattle.mapdb_snapshot.proofs.Places.PlacesCover.{AreIn, Cover, places_cover}
 use Rattle.mapdb_snapshot.proofs.Places.RunsCover.{AreInRuns, HaveRights, runs_have}
+use Rattle.mapdb_rights.proofs.Rights.Settled.{includes_where}
 
 -- one of the revocations takes the right
 abbrev pub Take : List Revocation → RecordId → ℕ → Right → Type 0
@@ -135,11 +135,6 @@ runs_stand id (run ∷ runs) cut room h = elim (among_either (cuts_of_run id run
   | inl here ↦ among_places id run.rights (places_of run.first_page run.page_count) cut (run_cover run (room run (inl refl))).each here
   | inr later ↦ runs_stand id runs cut (λ r among. room r (inr among)) later
 ]
-
-includes_where : (test : Right → Bool) (right : Right) → includes (rights_where test) right ≡ test right
-includes_where test Read = refl
-includes_where test Write = refl
-includes_where test Execute = refl
 
 all_runs : (S : State) (id : RecordId) → HaveRights (revoked_at S id) 0 page_limit (cut_runs S id 0)
 unfolding cut_runs

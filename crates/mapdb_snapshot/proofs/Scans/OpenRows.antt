@@ -1,6 +1,6 @@
 -- A list of rows that is scanned: rows stand before the place, and the list is not closed yet.
-use Rattle.std.proofs.Common.{◌≡◌, ℕ, ◌<◌, ◌∙◌, refl, sym, ap, Bool, true, false, List, [], ◌∷◌, ◌++◌, map, length, append_assoc, append-nil, length-append, arith}
-use Rattle.serde_json.specs.Data.{Data, Items, array}
+use Rattle.std.proofs.Common.{◌≡◌, ℕ, ◌∙◌, refl, sym, ap, Bool, true, List, [], ◌∷◌, ◌++◌, map, append_assoc, append-nil}
+use Rattle.serde_json.specs.Data.{Data}
 use Rattle.serde_json.specs.View.{items_of}
 use Rattle.serde_json.specs.Written.{comma_if, compact_text, items_text}
 use Rattle.mapdb_snapshot.specs.Snapshot.{list_of}

@@ -1,10 +1,9 @@
 -- The operations of a text from before addresses were wider lie below the bounds of that time.
-use Rattle.std.proofs.Common.{◌≡◌, ℕ, suc, ◌+◌, ◌-◌, ◌*◌, ◌/◌, ◌%◌, ◌^◌, ◌<◌, ◌≤◌, Bool, true, false, refl, sym, ap, subst, ◌∙◌, List, [], ◌∷◌, ◌++◌, Some, Ok, Err, inl, inr, arith, option_and_then, Result}
+use Rattle.std.proofs.Common.{◌≡◌, ℕ, ◌+◌, ◌-◌, ◌*◌, ◌/◌, ◌%◌, ◌^◌, ◌<◌, ◌≤◌, Bool, true, false, refl, sym, ap, subst, ◌∙◌, List, [], ◌∷◌, ◌++◌, Some, Ok, Err, inl, inr, arith, option_and_then, Result}
 use Rattle.std.specs.Prelude.{◌⊎◌, ◌==◌, nat_lt, nat_le, not, Option, None, if◌then◌else◌, codes}
 use Rattle.std.specs.Str.{is_utf8}
 use Rattle.std.proofs.lemmas.Bool.{ltb-true, ltb-false}
 use Rattle.std.proofs.lemmas.Nat.{pow-add}
-use Rattle.std.proofs.Math.Nat.{div-add-mod, lt_of_mul-lt-mul_left, mul-le-mul_left}
 use Rattle.serde_json.specs.Data.{Data, Items, Members, item, no_items}
 use Rattle.serde_json.specs.Find.{as_array, as_number, as_object, as_u64, get_item, get_member}
 use Rattle.serde_json.specs.Read.{read}
@@ -31,6 +30,7 @@ use Rattle.mapdb_snapshot.specs.declared.faults.SnapshotFault.{SnapshotFault}
 use Rattle.mapdb_snapshot.specs.declared.faults.SnapshotFault.TheVariants as fault
 use Rattle.mapdb_snapshot.specs.declared.forms.TheConstants.{NARROW_VERSION}
 use Rattle.mapdb_snapshot.proofs.Texts.AtomsComeBack.{formed_among}
+use Rattle.mapdb_fpage.proofs.Aligned.{fits_multiple}
 
 -- Steps that went well.
 
@@ -240,16 +240,6 @@ text_near bytes true ops version e = data_near (read bytes) ops version e
 text_near bytes false ops version e = absurd (err_ok fault.NotJson ops e)
 
 -- Sources.
-
--- a multiple of n below n * m has room for n more
-fits_multiple : (n m source : ℕ) → source % n ≡ 0 → source < n * m → source + n ≤ n * m
-fits_multiple n m source whole below =
-    let parts : n * (source / n) + source % n ≡ source = div-add-mod source n in
-    let less : n * (source / n) < n * m = omega (arith, parts, whole, below) in
-    let count : source / n < m = lt_of_mul-lt-mul_left n less in
-    let next : suc (source / n) ≤ m = omega arith in
-    let room : n * suc (source / n) ≤ n * m = mul-le-mul_left n next in
-    omega (arith, parts, whole, room)
 
 narrow_fits : (order source : ℕ) → order ≤ 32 → source % 2 ^ (order - 12) ≡ 0 → source < 2 ^ 20 → source + 2 ^ (order - 12) ≤ 2 ^ 20
 narrow_fits order source most whole below =

@@ -2,8 +2,8 @@ use Rattle.mapdb_join.specs.Held.{entries_of}
 use Rattle.std.specs.Option.{is_some}
 use Rattle.std.proofs.Common.{ap}
 use Rattle.std.proofs.lemmas.Result.{on_ok_weaker}
-use Rattle.mapdb_join.proofs.Changes.{union_at, union_new, keys_at}
-use Rattle.mapdb_join.proofs.Parts.{refused_under, held_from_mut, absent_from_mut, absent_apart, clash_down}
+use Rattle.mapdb_join.proofs.Changes.{union_at, keys_at}
+use Rattle.mapdb_join.proofs.Parts.{refused_under, held_from_mut, clash_down}
 use Rattle.mapdb_join.specs.Lawful.Exact.{exact_cmp}
 use Rattle.mapdb_join.proofs.part.merge_at.Goals as goal
 

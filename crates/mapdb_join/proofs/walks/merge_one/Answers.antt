@@ -1,6 +1,6 @@
 use Rattle.mapdb_join.proofs.Changes.{union_at, union_new, between_at, keys_at, keys_same, left_between}
 use Rattle.mapdb_join.proofs.Parts.{held_from_mut, absent_from_mut}
-use Rattle.std.proofs.Common.{rules, ap}
+use Rattle.std.proofs.Common.{ap}
 use Rattle.std.specs.Option.{is_some}
 use Rattle.mapdb_join.specs.Held.{entries_of}
 use Rattle.mapdb_join.specs.Lawful.Exact.{exact_cmp}

@@ -1,14 +1,14 @@
 use Rattle.std.proofs.Common.{◌≡◌, ◌∙◌, ◌++◌, ◌<◌, ℕ, List, false, length, refl, sym, ap, subst, take, drop, arith, inr}
 use Rattle.std.specs.Prelude.{Bool, ◌||◌}
 use Rattle.std.specs.Io.KnownBytes.{Consumes}
-use Rattle.mapdb_lines.proofs.LineLemmas.{Consumes-append}
-use Rattle.mapdb_program.proofs.SnapshotLemmas.{consumes_kept, consumes_nothing, consumes_zero, ended_now, grows_little, piece_read, shows_no_end, told_memory, went_on, worked}
+use Rattle.std.proofs.KnownBytes.{Consumes-kept, Consumes-nil, Consumes-trans}
+use Rattle.mapdb_program.proofs.SnapshotLemmas.{consumes_zero, ended_now, grows_little, piece_read, shows_no_end, told_memory, went_on, worked}
 use Rattle.mapdb_program.proofs.snapshots.read_all.Goals as goal
 
 pub pieces-init : goal.pieces-init
 pieces-init g c = record {
   consumed = subst (λ (xs : List ℕ). Consumes (g.R.Source.left c.args.reader.now) (g.R.Source.left c.args.reader.now) xs) (sym c.new-input.ensures.items)
-      (consumes_nothing (g.R.Source.left c.args.reader.now));
+      (Consumes-nil (g.R.Source.left c.args.reader.now));
   near = let none = ap length c.new-input.ensures.items in omega arith;
   works = c.requires;
   once = refl;
@@ -18,7 +18,7 @@ pieces-init g c = record {
 pub returns-in-Err-clause-read : goal.returns-in-Err-clause-read
 returns-in-Err-clause-read g c = (
   c.pieces.input.items,
-  consumes_kept (g.R.Source.left c.args.reader.now) (g.R.Source.left c.pieces.reader) (g.R.Source.left c.read.new.self) c.pieces.input.items c.pieces.invariant.consumed c.in-Err.ensures.bytes,
+  Consumes-kept (g.R.Source.left c.args.reader.now) (g.R.Source.left c.pieces.reader) (g.R.Source.left c.read.new.self) c.pieces.input.items c.pieces.invariant.consumed c.in-Err.ensures.bytes,
   tt,
   omega arith,
 )
@@ -53,7 +53,7 @@ pieces-preserved g c =
     record {
       consumed = subst (λ (bs : List ℕ). Consumes (g.R.Source.left c.args.reader.now) (g.R.Source.left c.read.new.self) bs)
           (sym (c.in_ok-extend_from_slice.ensures.items ∙ ap (λ (bs : List ℕ). c.pieces.input.items ++ bs) read))
-          (Consumes-append (g.R.Source.left c.args.reader.now) (g.R.Source.left c.pieces.reader) (g.R.Source.left c.read.new.self) c.pieces.input.items
+          (Consumes-trans (g.R.Source.left c.args.reader.now) (g.R.Source.left c.pieces.reader) (g.R.Source.left c.read.new.self) c.pieces.input.items
           (take c.in-Ok.count c.read.new.piece) c.pieces.invariant.consumed c.in-Ok.ensures.bytes.0);
       near = grows_little c.pieces.input.items c.deref.result.now c.extend_from_slice.new.self.items c.in-Ok.count c.in_ok-extend_from_slice.ensures.items
           (omega arith) (omega (arith, auto, value, c.in-Ok.ensures.bound));
@@ -72,7 +72,7 @@ returns-in_err-extend_from_slice-clause-read g c =
     let little = grows_little c.pieces.input.items c.read.new.piece input c.in-Ok.count refl (omega arith) (omega (arith, auto, value, room, c.in-Ok.ensures.bound)) in
     let told = told_memory _ c.from_residual-in_err-extend_from_slice.result input little c.from_residual-in_err-extend_from_slice.ensures.0 c.from_residual-in_err-extend_from_slice.ensures.1 in (
       input,
-      Consumes-append (g.R.Source.left c.args.reader.now) (g.R.Source.left c.pieces.reader) (g.R.Source.left c.read.new.self) c.pieces.input.items
+      Consumes-trans (g.R.Source.left c.args.reader.now) (g.R.Source.left c.pieces.reader) (g.R.Source.left c.read.new.self) c.pieces.input.items
           (take c.in-Ok.count c.read.new.piece) c.pieces.invariant.consumed c.in-Ok.ensures.bytes.0,
       told.0,
       told.1,

@@ -1,8 +1,8 @@
 use Rattle.std.proofs.Common.{◌≡◌, ◌⊎◌, ◌∙◌, List, ℕ, [], Ok, Err, ap, subst, sym}
 use Rattle.std.specs.Prelude.{Option}
 use Rattle.std.specs.Io.KnownBytes.{Consumes}
+use Rattle.std.proofs.KnownBytes.{Appends-nil}
 use Rattle.mapdb_picture.specs.declared.faults.LoadFault.TheVariants.{Memory}
-use Rattle.mapdb_lines.proofs.BlockLemmas.{appends-none}
 use Rattle.mapdb_program.specs.Snapshots.{answer_told}
 use Rattle.mapdb_program.proofs.SnapshotLemmas.{fault_told, front_told}
 use Rattle.mapdb_program.proofs.snapshots.tell_snapshot.Goals as goal
@@ -18,7 +18,7 @@ returns-in_err-text-clause-told g c =
       c.in_ok-input.input.items,
       [],
       read_input (g.R.Source.left c.args.reader.now) (g.R.Source.left c.read_all.new.reader) read.0 c.in_ok-input.input.items read.1 read.2,
-      appends-none (g.W.Sink.written c.args.writer.now),
+      Appends-nil (g.W.Sink.written c.args.writer.now),
       fault_told c.args.asked c.from_residual-in_err-text.result c.in_ok-input.input.items fault _ c.from_residual-in_err-text.ensures.0 c.from_residual-in_err-text.ensures.1
           (c.in_ok-input.ensures.over, c.in_ok-input.ensures.short)
           (subst (λ (bs : List ℕ). (fault ≡ Memory) ⊎ (answer_told c.args.asked bs ≡ Err fault)) c.as_slice.ensures.value c.in_err-text.ensures.err),

@@ -2,12 +2,12 @@ use Rattle.std.proofs.Common.{rules, ◌≡◌, ℕ, List, [], Err, refl, subst,
 use Rattle.std.specs.Prelude.{◌↔◌}
 use Rattle.std.proofs.lemmas.List.{length-map}
 use Rattle.std.proofs.lemmas.Result.{err_from_is_err_and}
+use Rattle.std.proofs.KnownBytes.{Appends-nil}
 use Rattle.mapdb_exchange.specs.Counts.{IsCount}
 use Rattle.mapdb_exchange.specs.declared.faults.RunFault.TheVariants.{BadCount}
 use Rattle.mapdb_exchange.specs.declared.reports.Part.{Part}
 use Rattle.mapdb_script.specs.declared.faults.ScriptFault.{ScriptFault}
 use Rattle.mapdb_script.specs.declared.faults.ScriptFault.TheVariants.{Line}
-use Rattle.mapdb_lines.proofs.BlockLemmas.{appends-none}
 use Rattle.mapdb_lines.specs.Streams.{HasEnded}
 use Rattle.mapdb_script.specs.Threading.{TellsScripts}
 use Rattle.mapdb_program.specs.Threaded.{IsTextWritten, report_text}
@@ -49,7 +49,7 @@ returns-in_err-report-clause-told g c =
     let read = c.in-Ok.ensures.told in
     let why = c.in_err-report.field-0.0 in
     let exactly = subst (λ (n : ℕ). why ≡ BadCount ↔ (IsCount n c.args.capacity → ⊥)) (sym (length-map _ _)) c.in_err-report.ensures.bad in
-    rw (p.1, p.2) (read.0, [], read.1, appends-none _, ((read.2.0.1, (_, read.2.0.0, exactly), refl), read.2.1))
+    rw (p.1, p.2) (read.0, [], read.1, Appends-nil _, ((read.2.0.1, (_, read.2.0.0, exactly), refl), read.2.1))
 
 pub returns-in-Err-Line-clause-told : goal.returns-in-Err-Line-clause-told
 returns-in-Err-Line-clause-told c = search rules

@@ -1,8 +1,9 @@
 use Rattle.std.proofs.Common.{◌≡◌, ℕ, ◌+◌, List, [], ◌∙◌, arith, drop}
 use Rattle.std.specs.Prelude.{slice_range}
+use mathlib.Core.Bool.{or-false}
 use Rattle.mapdb_lines.specs.Blocks.{waiting}
 use Rattle.mapdb_lines.proofs.BlockLemmas.{on_err_of, passes-then, passes-written, passes_none_left}
-use Rattle.mapdb_lines.proofs.LineLemmas.{or_false, slice_range_drop, length_range}
+use Rattle.mapdb_lines.proofs.LineLemmas.{slice_range_drop, length_range}
 use Rattle.mapdb_lines.proofs.blocks.Block.flush.Goals as goal
 
 pub loop-self-preserved : goal.loop-self-preserved
@@ -16,7 +17,7 @@ loop-self-preserved g c =
     record {
       passes = passes-then (g.W.Sink.written c.args.writer.now) (g.W.Sink.written c.loop-self.writer) (g.W.Sink.written c.write.new.self) (waiting c.args.self.now) (waiting old) rest [] [] c.loop-self.invariant.passes
           (passes-written (g.W.Sink.written c.loop-self.writer) (g.W.Sink.written c.write.new.self) n (waiting old) rest bytes left);
-      kept = c.in_ok-self.ensures.failed ∙ (or_false _ ∙ c.loop-self.invariant.kept);
+      kept = c.in_ok-self.ensures.failed ∙ (or-false _ ∙ c.loop-self.invariant.kept);
     }
 
 pub returns-in_err-self-clause-asked : goal.returns-in_err-self-clause-asked

@@ -12,10 +12,11 @@ use Rattle.mapdb_rights.specs.Following.{AreListed}
 use Rattle.mapdb_rights.specs.Pending.{IsPending}
 use Rattle.mapdb_rights.specs.Right.{rights_at}
 use Rattle.mapdb_rights.proofs.Settling.Ended.{numbered_is_other, rights_in_place}
-use Rattle.mapdb_rights.proofs.Settling.Followed.{frames_by_op, first_alone, left_by_op, listed_by_end}
+use Rattle.mapdb_rights.proofs.Settling.Followed.{frames_by_op, left_by_op, listed_by_end}
 use Rattle.mapdb_rights.specs.IdlePlaces.{HasIdleBut, StayNoted}
 use Rattle.mapdb_rights.proofs.Settling.IdleRecords.{idle_alike, idle_but}
 use Rattle.mapdb_rights.proofs.Settling.LiveRecords.{live_later}
+use Rattle.mapdb_facts.proofs.States.Newness.{first_of_none}
 use Rattle.mapdb_rights.proofs.index.following.follow_end.Goals as goal
 
 pub push_space-requires : goal.push_space-requires
@@ -33,7 +34,7 @@ settle-requires-clause-settled c =
     (λ id page unsettles.
     let there : AreListed S c.args.listed.now = listed_by_end S c.requires.stood.before c.args.space c.args.listed.now c.requires.stood.is c.requires.stood.stood.listed_there in
     let r : Record = unsettles.0 in
-    let held : S.record_at id ≡ Some r = ap (λ (T : State). T.record_at id) c.requires.stood.is ∙ first_alone (c.requires.stood.before.record_at id) ∙ unsettles.1 in
+    let held : S.record_at id ≡ Some r = ap (λ (T : State). T.record_at id) c.requires.stood.is ∙ first_of_none (c.requires.stood.before.record_at id) ∙ unsettles.1 in
     let named = there.named id r held in
     let own : S.record_at r.id ≡ Some r = ap S.record_at named ∙ held in
     let other : is_root id ≡ false = subst (λ (o : RecordId). is_root o ≡ false) named (numbered_is_other r.id (there.formed r own).has_number) in

@@ -1,7 +1,7 @@
-use Rattle.std.proofs.Common.{◌≡◌, Bool, true, false, refl, sym, ap, subst, ◌∙◌, inl, inr}
+use Rattle.std.proofs.Common.{Bool, sym, ap, subst, ◌∙◌, inl, inr}
 use Rattle.std.specs.Prelude.{◌||◌}
 use Rattle.std.specs.BTreeMap.{is_at}
-use Rattle.std.proofs.lemmas.Bool.{cases_Bool}
+use Rattle.std.proofs.lemmas.Bool.{cases_Bool, or_right}
 use Rattle.mapdb_lists.specs.declared.places.Listed.{Listed}
 use Rattle.mapdb_lists.specs.Listing.{IsAligned, is_listed, listed_cmp}
 use Rattle.mapdb_lists.proofs.Lists.ListedOrder.{exact_listed, listed_itself}
@@ -19,11 +19,7 @@ returns-clause-there c =
     c.in_ok-insert.ensures c.args.place ∙ ap (λ (b : Bool). b || is_listed c.args.listed.now c.args.place) (listed_itself c.args.place)
 
 pub returns-clause-kept : goal.returns-clause-kept
-returns-clause-kept c e has = c.in_ok-insert.ensures e ∙ later (is_at (listed_cmp c.args.place) e) (is_listed c.args.listed.now e) has
-  where
-    later : (a b : Bool) → b ≡ true → (a || b) ≡ true
-    later true b h = refl
-    later false b h = h
+returns-clause-kept c e has = c.in_ok-insert.ensures e ∙ or_right (is_at (listed_cmp c.args.place) e) (is_listed c.args.listed.now e) has
 
 pub returns-clause-no_more : goal.returns-clause-no_more
 returns-clause-no_more c e has =

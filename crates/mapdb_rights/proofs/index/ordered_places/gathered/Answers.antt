@@ -3,7 +3,8 @@ use Rattle.std.proofs.lemmas.Bool.{false≢true, true≢false}
 use Rattle.mapdb_lists.specs.OwnPlaces.{own_list, stands}
 use Rattle.mapdb_lists.specs.declared.own_places.OwnPlace.{OwnPlace}
 use Rattle.mapdb_lists.proofs.PlaceLemmas.OwnSweeps.{start_ahead}
-use Rattle.mapdb_rights.proofs.Places.PlaceWalks.{meets_all, pushed, pushed_new, pushed_old, same_when}
+use Rattle.mapdb_rights.proofs.Places.PlaceWalks.{meets_all, pushed, pushed_new, pushed_old}
+use Rattle.mapdb_fpage.proofs.Booleans.{same_test}
 use Rattle.mapdb_rights.proofs.index.ordered_places.gathered.Goals as goal
 
 pub places-init : goal.places-init
@@ -33,7 +34,7 @@ places-preserved c =
 
 pub returns : goal.returns
 returns c p =
-    same_when (stands c.places.places.items p) (stands (own_list c.args.own.now) p) (c.places.invariant.known p) (λ has. elim (c.places.invariant.all p has) [
+    same_test (stands c.places.places.items p) (stands (own_list c.args.own.now) p) (c.places.invariant.known p) (λ has. elim (c.places.invariant.all p has) [
       | inl later ↦ absurd (true≢false (sym (meets_all (own_list c.args.own.now) c.requires p has) ∙ c.in_default.ensures p later))
       | inr there ↦ there
     ])

@@ -1,7 +1,8 @@
-use Rattle.std.proofs.Common.{◌≡◌, Bool, true, false, ap, sym, ◌∙◌}
+use Rattle.std.proofs.Common.{ap, sym, ◌∙◌}
 use Rattle.std.specs.Prelude.{not}
 use Rattle.mapdb_facts.specs.Facts.{state_of_facts}
 use Rattle.mapdb_rights.proofs.Rights.Revoked.{known_revoked, revoked_known}
+use Rattle.mapdb_facts.proofs.States.Newness.{not_true}
 use Rattle.mapdb_rights.proofs.index.unlisting.is_revoked.Goals as goal
 
 pub returns : goal.returns
@@ -9,7 +10,3 @@ returns c = (
   λ known. known_revoked (state_of_facts c.args.facts.now) c.args.mapping.now (sym c.is_new.ensures ∙ not_true c.is_new.result known),
   λ revoked. ap not (c.is_new.ensures ∙ revoked_known (state_of_facts c.args.facts.now) c.args.mapping.now revoked),
 )
-  where
-    not_true : (b : Bool) → not b ≡ true → b ≡ false
-    not_true true h = sym h
-    not_true false h = ap not h
