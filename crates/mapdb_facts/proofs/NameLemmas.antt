@@ -1,4 +1,5 @@
 -- Where names stand, and what their values are.
+pub mod ByPlaces
 pub mod NearWords
 pub mod NamedEntries
 pub mod NamesInOrder

@@ -3,32 +3,35 @@
 ghost use Rattle.std.specs.Prelude.{◌≡◌, [], None, OnErr, OnOk};
 ghost use Rattle.std.specs.Map.{lookup};
 ghost use Rattle.std.specs.Option.{option_copied};
+ghost use Rattle.mapdb_facts.specs.ByName.{HasSameValues};
 ghost use Rattle.mapdb_facts.specs.Names.{same_id};
-ghost use Rattle.mapdb_facts.specs.NamedValues.{IsInserted, names_of, with_name};
+ghost use Rattle.mapdb_facts.specs.NamedValues.{IsInserted};
 
-use crate::name_list::NameList;
+use crate::name_places::NamePlaces;
 use crate::names::RecordId;
 use std::alloc::{AllocError, Global};
 use std::marker::Model;
 
-/// Values by the name of a record.
+/// Values by the name of a record. The names are not listed beside them: a name is known by where
+/// its value stands.
 #[derive(Drop)]
 pub struct ByName<V> {
-    /// The names, each once.
-    pub names: NameList,
-    /// Their values, in the same order.
+    /// Where the value of each name stands.
+    pub places: NamePlaces,
+    /// The values, in the order in which their names came.
     pub values: Vec<V>,
 }
 
 impl<V> Model for ByName<V> {
-    ghost use Rattle.std.specs.Prelude.{◌≡◌, length};
-    ghost use Rattle.mapdb_facts.specs.NamedValues.{NamedValues, named};
+    ghost use Rattle.std.specs.Prelude.{length};
+    ghost use Rattle.mapdb_facts.specs.ByName.{ArePlacesBelow, by_places};
+    ghost use Rattle.mapdb_facts.specs.NamedValues.{NamedValues};
 
     ghost Value = { NamedValues V };
 
-    ghost view = { λ a. named a.names a.values.items };
+    ghost view = { λ a. by_places a.places a.values.items };
 
-    ghost invariant = { λ a. length a.names ≡ length a.values.items };
+    ghost invariant = { λ a. ArePlacesBelow a.places (length a.values.items) };
 }
 
 impl<V: Drop> ByName<V> {
@@ -37,7 +40,7 @@ impl<V: Drop> ByName<V> {
         ensures { result.entries ≡ [] }
     {
         ByName {
-            names: NameList::new(alloc),
+            places: NamePlaces::new(alloc),
             values: Vec::new(alloc),
         }
     }
@@ -47,24 +50,22 @@ impl<V: Drop> ByName<V> {
     pub fn get(&self, id: RecordId) -> Option<&V>
         ensures { option_copied result ≡ lookup (same_id id) self.now.entries }
     {
-        match self.names.place(id) {
+        match self.places.get(id) {
             Some(at) => Some(&self.values[at]),
             None => None,
         }
     }
 
-    /// Gives a value to a name that has none, behind the others, where there are so many names
-    /// elsewhere, as of records, of which few have a value here: a name with a great number is
-    /// found as fast then. An error where memory ran out, and then nothing has changed.
+    /// Gives a value to a name that has none. An error where memory ran out, and then each name has
+    /// the value that it had.
     #[inline(always)]
-    pub fn insert(&mut self, id: RecordId, value: V, elsewhere: usize) -> Result<(), AllocError>
+    pub fn insert(&mut self, id: RecordId, value: V) -> Result<(), AllocError>
         requires { lookup (same_id id) self.old.entries ≡ None }
         ensures ok { OnOk result (IsInserted self.old id value self.new) }
-        ensures names { OnOk result (names_of self.new ≡ with_name (names_of self.old) id) }
-        ensures err { OnErr result (self.new.entries ≡ self.old.entries) }
+        ensures err { OnErr result (HasSameValues self.old self.new) }
     {
         self.values.reserve(1)?;
-        self.names.add(id, elsewhere)?;
+        self.places.put(id, self.values.len(), 0)?;
         self.values.push_reserved(value);
         Ok(())
     }

@@ -9,7 +9,7 @@ ghost use Rattle.mapdb_join.specs.Regions.{starts_of};
 ghost use Rattle.mapdb_facts.specs.CutCovers.{CoversUnder};
 ghost use Rattle.mapdb_facts.specs.Kept.{has_cut, id_cmp};
 
-use crate::by_name::ByName;
+use crate::listed_by_name::ListedByName;
 use crate::names::RecordId;
 use mapdb_join::{Merge, MergeFault, MergePart, Region, Runs};
 use std::alloc::{AllocError, Global};
@@ -18,7 +18,7 @@ use std::marker::Model;
 /// The bits of the rights that are taken, by the name of the record and then in runs of pages.
 #[derive(Drop)]
 pub struct CutsByRecord {
-    by_name: ByName<Runs>,
+    by_name: ListedByName<Runs>,
     alloc: Global,
 }
 
@@ -31,7 +31,7 @@ impl Model for CutsByRecord {
 }
 
 /// Whether one has what the other takes from the record of a name.
-fn covers_under(cuts: &ByName<Runs>, other: &ByName<Runs>, id: RecordId) -> bool
+fn covers_under(cuts: &ListedByName<Runs>, other: &ListedByName<Runs>, id: RecordId) -> bool
     ensures { IsTrue result ↔ CoversUnder cuts.now.entries other.now.entries id }
 {
     let Some(theirs) = other.get(id) else {
@@ -44,7 +44,7 @@ fn covers_under(cuts: &ByName<Runs>, other: &ByName<Runs>, id: RecordId) -> bool
 }
 
 /// Whether one has all that the other takes.
-fn covers_all(cuts: &ByName<Runs>, other: &ByName<Runs>) -> bool
+fn covers_all(cuts: &ListedByName<Runs>, other: &ListedByName<Runs>) -> bool
     ensures { IsTrue result ↔ Includes has_cut cuts.now.entries other.now.entries }
 {
     for id in other.names.as_slice() {
@@ -56,7 +56,7 @@ fn covers_all(cuts: &ByName<Runs>, other: &ByName<Runs>) -> bool
 }
 
 /// Takes what these runs take from the record of a name. An error where memory ran out.
-fn merge_under(cuts: &mut ByName<Runs>, id: RecordId, theirs: &Runs) -> Result<(), AllocError>
+fn merge_under(cuts: &mut ListedByName<Runs>, id: RecordId, theirs: &Runs) -> Result<(), AllocError>
     ensures ok { OnOk result (IsUnion has_cut cuts.old.entries ((id, theirs.now) ∷ [])
         cuts.new.entries) }
     ensures err { OnErr result (IsBetween has_cut cuts.old.entries ((id, theirs.now) ∷ [])
@@ -70,7 +70,7 @@ fn merge_under(cuts: &mut ByName<Runs>, id: RecordId, theirs: &Runs) -> Result<(
 }
 
 /// Takes what the other takes. An error where memory ran out, and then some of it is taken.
-fn merge_all(cuts: &mut ByName<Runs>, other: &ByName<Runs>) -> Result<(), AllocError>
+fn merge_all(cuts: &mut ListedByName<Runs>, other: &ListedByName<Runs>) -> Result<(), AllocError>
     ensures ok { OnOk result (IsUnion has_cut cuts.old.entries other.now.entries
         cuts.new.entries) }
     ensures err { OnErr result (IsBetween has_cut cuts.old.entries other.now.entries
@@ -87,7 +87,7 @@ fn merge_all(cuts: &mut ByName<Runs>, other: &ByName<Runs>) -> Result<(), AllocE
 /// Takes bits of the pages of a region from the record of a name, where so many records are held.
 /// An error where memory ran out, and then nothing has changed.
 fn merge_region(
-    cuts: &mut ByName<Runs>,
+    cuts: &mut ListedByName<Runs>,
     alloc: Global,
     id: RecordId,
     region: Region,
@@ -112,7 +112,7 @@ impl CutsByRecord {
         ensures { result ≡ [] }
     {
         CutsByRecord {
-            by_name: ByName::new(alloc),
+            by_name: ListedByName::new(alloc),
             alloc,
         }
     }
@@ -151,7 +151,7 @@ impl CutsByRecord {
     pub(crate) fn is_none(&self) -> bool
         ensures { IsTrue result ↔ HasNone has_cut self.now }
     {
-        covers_all(&ByName::new(self.alloc), &self.by_name)
+        covers_all(&ListedByName::new(self.alloc), &self.by_name)
     }
 
     /// Takes all that the other takes too. An error where memory ran out, and then some of it is

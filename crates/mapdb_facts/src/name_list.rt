@@ -10,7 +10,7 @@ use std::marker::Model;
 
 /// Names of records in the order in which they came, each once, and where each stands.
 #[derive(Drop)]
-pub struct NameList {
+pub(crate) struct NameList {
     names: Vec<RecordId>,
     places: NamePlaces,
 }
@@ -29,7 +29,7 @@ impl Model for NameList {
 
 impl NameList {
     /// No names. It takes no memory.
-    pub fn new(alloc: Global) -> NameList
+    pub(crate) fn new(alloc: Global) -> NameList
         ensures { result ≡ [] }
     {
         NameList {
@@ -39,7 +39,7 @@ impl NameList {
     }
 
     /// The names, in the order in which they came.
-    pub fn as_slice(&self) -> &[RecordId]
+    pub(crate) fn as_slice(&self) -> &[RecordId]
         ensures { result.now ≡ self.now }
     {
         self.names.as_slice()
@@ -47,7 +47,7 @@ impl NameList {
 
     /// The place of a name, where it is one of these.
     #[inline(always)]
-    pub fn place(&self, id: RecordId) -> Option<usize>
+    pub(crate) fn place(&self, id: RecordId) -> Option<usize>
         ensures { result ≡ place_of id self.now }
     {
         self.places.get(id)
@@ -57,7 +57,7 @@ impl NameList {
     /// with a great number is found as fast. An error where memory ran out, and then nothing has
     /// changed.
     #[inline(always)]
-    pub fn add(&mut self, id: RecordId, elsewhere: usize) -> Result<(), AllocError>
+    pub(crate) fn add(&mut self, id: RecordId, elsewhere: usize) -> Result<(), AllocError>
         requires { place_of id self.old ≡ None }
         ensures ok { OnOk result (self.new ≡ self.old ++ id ∷ []) }
         ensures err { OnErr result (self.new ≡ self.old) }

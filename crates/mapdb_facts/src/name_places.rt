@@ -12,7 +12,8 @@ use crate::names::RecordId;
 use std::alloc::{AllocError, Global};
 use std::collections::BTreeMap;
 
-/// The places of names. Which names are near is a matter of speed alone.
+/// The places of names in a list that they belong to. Which names are near is a matter of speed
+/// alone.
 #[derive(Drop)]
 pub struct NamePlaces {
     pub(crate) near: Vec<Vec<u32>>,
@@ -133,7 +134,7 @@ impl NamePlaces {
 
     /// The place of a name, where it has one.
     #[inline(always)]
-    pub(crate) fn get(&self, id: RecordId) -> Option<usize>
+    pub fn get(&self, id: RecordId) -> Option<usize>
         ensures { result ≡ place_in self.now id }
     {
         let word = near_word(self.near.as_slice(), id);

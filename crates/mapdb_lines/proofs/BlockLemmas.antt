@@ -69,9 +69,3 @@ range_put xs text s e room low high is =
     let whole : all ++ drop (length all) xs ≡ all = ap (λ (bs : List ℕ). all ++ bs) (drop_of_length-le xs (omega arith)) ∙ append-nil all in
     let same : take room (all ++ drop (length all) xs) ≡ all = ap (take room) whole ∙ take_all room all (omega arith) in
     ap (λ (bs : List ℕ). slice_range bs s (e + length text)) same ∙ range_added xs text back s e low (omega arith)
-
--- ---- what follows for a result
-
-pub on_err_of : {X E A : Type 0} (r : Result X E) → A → OnErr r A
-on_err_of (Ok x) h = tt
-on_err_of (Err e) h = h

@@ -198,12 +198,12 @@ fn write_among(
         own_changes.new.entries) }
 {
     let before = first_change(id);
-    if let Some(at) = own_changes.names.place(id) {
+    if let Some(at) = own_changes.places.get(id) {
         return own_changes.values[at].write(alloc, before, first, end, was, change);
     }
     let mut own = OwnChanges::new(alloc);
     own.write(alloc, before, first, end, was, change)?;
-    own_changes.insert(id, own, 0)
+    own_changes.insert(id, own)
 }
 
 /// Gives a change to the pages of a record, by number, from `first` on up to before `end`, over

@@ -43,12 +43,12 @@ fn put_for_record(
     ensures { OnOk result (IsPut RecordId same_id records.old.entries records.new.entries id
         place) }
 {
-    if let Some(at) = records.names.place(id) {
+    if let Some(at) = records.places.get(id) {
         return records.values[at].insert(alloc, place);
     }
     let mut own = OwnPlaces::new(alloc);
     own.insert(alloc, place)?;
-    records.insert(id, own, 0)
+    records.insert(id, own)
 }
 
 /// Puts a place among those of a space. An error where memory ran out.
@@ -74,7 +74,7 @@ fn put_for_space(
 fn remove_for_record(records: &mut ByName<OwnPlaces>, id: RecordId, place: OwnPlace)
     ensures { IsRemoved RecordId same_id records.old.entries records.new.entries id place }
 {
-    if let Some(at) = records.names.place(id) {
+    if let Some(at) = records.places.get(id) {
         records.values[at].remove(place);
     }
 }

@@ -10,6 +10,7 @@ use Rattle.std.proofs.lemmas.Bool.{and_from, cond-false, cond-true, or_cases, or
 use Rattle.mapdb_join.specs.Entries.{IsChangedAt, has_under, some_has}
 use Rattle.mapdb_join.proofs.Walking.{AreFound, Covered, any_entry, in_entry}
 use Rattle.mapdb_facts.specs.declared.names.RecordId.{RecordId}
+use Rattle.mapdb_facts.specs.ByName.{with_value, with_values}
 use Rattle.mapdb_facts.specs.Kept.{id_cmp}
 use Rattle.mapdb_facts.specs.Names.{same_id}
 use Rattle.mapdb_facts.proofs.Lists.Comparing.{exact_ids, id_at}
@@ -37,19 +38,13 @@ changed_from old new id value h = record {
       ∙ sym (one_lookup old q);
 }
 
--- a name with what is found by it, in front of the rest
-abbrev pub with_found : {V : Type 0} → RecordId → Option V → List (RecordId × V) → List (RecordId × V)
-with_found id None rest = rest
-with_found id (Some v) rest = (id, v) ∷ rest
-
 -- what is found by names, one by one
 abbrev pub found_by : {V : Type 0} → List (RecordId × V) → List RecordId → List (RecordId × V)
-found_by entries [] = []
-found_by entries (id ∷ ids) = with_found id (lookup (is_at (id_cmp id)) entries) (found_by entries ids)
+found_by entries ids = with_values (λ id. lookup (is_at (id_cmp id)) entries) ids
 
 module _ {V : Type 0} (entries : List (RecordId × V)) where
   -- it is found
-  found_with : (id : RecordId) (o : Option V) (rest : List (RecordId × V)) → lookup (is_at (id_cmp id)) entries ≡ o → AreFound id_cmp entries rest → AreFound id_cmp entries (with_found id o rest)
+  found_with : (id : RecordId) (o : Option V) (rest : List (RecordId × V)) → lookup (is_at (id_cmp id)) entries ≡ o → AreFound id_cmp entries rest → AreFound id_cmp entries (with_value id o rest)
   found_with id None rest e all = all
   found_with id (Some v) rest e all = (e, all)
 
@@ -63,7 +58,7 @@ module _ {V : Type 0} (entries : List (RecordId × V)) where
     had_at id o e here = sym (ap (λ w. some_has has w p.1) (ap (λ q. lookup (is_at (id_cmp q)) entries) (exact_ids p.0 id here) ∙ e)) ∙ had
 
     any_with : (id : RecordId) (o : Option V) (rest : List (RecordId × V)) (later : Bool) → lookup (is_at (id_cmp id)) entries ≡ o → (is_at (id_cmp p.0) id || later) ≡ true
-        → (later ≡ true → any_entry id_cmp has rest p ≡ true) → any_entry id_cmp has (with_found id o rest) p ≡ true
+        → (later ≡ true → any_entry id_cmp has rest p ≡ true) → any_entry id_cmp has (with_value id o rest) p ≡ true
     any_with id None rest later e k go = elim (or_cases (is_at (id_cmp p.0) id) later k) [
       | inl here ↦ absurd (true≢false (sym (had_at id None e here)))
       | inr behind ↦ go behind

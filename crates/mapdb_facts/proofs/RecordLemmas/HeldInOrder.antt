@@ -18,13 +18,14 @@ use Rattle.mapdb_facts.specs.declared.operations.Record.{Record}
 use Rattle.mapdb_facts.specs.Adding.{same_record}
 use Rattle.mapdb_facts.specs.Exact.{exact_record}
 use Rattle.mapdb_facts.specs.HeldRecords.{HoldsAnother, IsClashAt, IsGreatestName, excludes_record, one_record}
+use Rattle.mapdb_facts.specs.ByName.{with_value}
 use Rattle.mapdb_facts.specs.Kept.{Records, has_record, id_cmp, record_in}
 use Rattle.mapdb_facts.specs.NamedValues.{IsInserted, NamedValues}
 use Rattle.mapdb_facts.specs.Names.{same_id}
 use Rattle.mapdb_facts.proofs.Lists.Comparing.{exact_ids, id_at}
 use Rattle.mapdb_facts.proofs.Lists.SameNames.{same_id_itself, some_same}
 use Rattle.mapdb_facts.proofs.NameLemmas.NextNames.{le_not_less, le_through, not_less_through}
-use Rattle.mapdb_facts.proofs.NameLemmas.NamesInOrder.{changed_from, found_by, id_total, one_lookup, with_found}
+use Rattle.mapdb_facts.proofs.NameLemmas.NamesInOrder.{changed_from, found_by, id_total, one_lookup}
 use Rattle.mapdb_facts.proofs.RecordLemmas.RecordAtoms.{atom_of_record, record_of_atom}
 use Rattle.mapdb_facts.proofs.RecordLemmas.SameRecords.{same_or_other, same_record_itself}
 
@@ -122,7 +123,7 @@ module _ (mine theirs : Records) (id : RecordId) (rest : List RecordId) where
   pub covered_step : CoversAt mine theirs id → Covered id_cmp same_record mine theirs (found_by theirs (id ∷ rest)) → Covered id_cmp same_record mine theirs (found_by theirs rest)
   covered_step covers = by (record_in theirs id) refl
     where
-      by : (o : Option Record) → record_in theirs id ≡ o → Covered id_cmp same_record mine theirs (with_found id o (found_by theirs rest)) → Covered id_cmp same_record mine theirs (found_by theirs rest)
+      by : (o : Option Record) → record_in theirs id ≡ o → Covered id_cmp same_record mine theirs (with_value id o (found_by theirs rest)) → Covered id_cmp same_record mine theirs (found_by theirs rest)
       by None e a = a
       by (Some r) e a = covered_next (id, r) (found_by theirs rest) (entry_in id_cmp same_record exact_ids mine (id, r) (covers r e)) a
 

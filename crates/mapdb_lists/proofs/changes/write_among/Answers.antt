@@ -9,31 +9,31 @@ use Rattle.mapdb_lists.specs.Changes.{IsRewritten, change_in}
 use Rattle.mapdb_lists.specs.OwnChanges.{own_change}
 use Rattle.mapdb_lists.proofs.ChangeLemmas.RecordChanges.{written_changed, written_new}
 use Rattle.std.proofs.lemmas.Result.{on_ok_weaker}
-use Rattle.mapdb_facts.proofs.NameLemmas.NamedEntries.{found_at, found_nowhere, given_at, place_within}
+use Rattle.mapdb_facts.proofs.NameLemmas.ByPlaces.{no_place_found, place_below, placed_value, value_given}
 use Rattle.mapdb_lists.proofs.changes.write_among.Goals as goal
 
 pub index_mut-requires : goal.index_mut-requires
-index_mut-requires c = omega (arith, place_within c.own_changes.inside.names c.args.id c.in-Some.at (sym c.in-Some.ensures), c.own_changes.invariant, c.own_changes.inside.values.ok.0)
+index_mut-requires c = omega (arith, place_below c.own_changes.inside.places c.own_changes.inside.values.items c.own_changes.invariant c.args.id c.in-Some.at (sym c.in-Some.ensures), c.own_changes.inside.values.ok.0)
 
 pub write-requires-clause-one : goal.write-requires-clause-one
 write-requires-clause-one c q above before =
-    let within : c.in-Some.at < length c.own_changes.inside.values.items = omega (arith, place_within c.own_changes.inside.names c.args.id c.in-Some.at (sym c.in-Some.ensures), c.own_changes.invariant, c.own_changes.inside.values.ok.0) in
+    let within : c.in-Some.at < length c.own_changes.inside.values.items = omega (arith, place_below c.own_changes.inside.places c.own_changes.inside.values.items c.own_changes.invariant c.args.id c.in-Some.at (sym c.in-Some.ensures), c.own_changes.inside.values.ok.0) in
     ap (λ (own : Option OwnChanges). change_in own q)
     (sym (slice_get_read c.own_changes.inside.values.items _ c.in-Some.at c.index_mut.result.now refl within c.index_mut.ensures.value)
-    ∙ found_at c.own_changes.inside.names c.own_changes.inside.values.items c.args.id c.in-Some.at (sym c.in-Some.ensures) within
+    ∙ placed_value c.own_changes.inside.places c.own_changes.inside.values.items c.own_changes.invariant c.args.id c.in-Some.at (sym c.in-Some.ensures)
     ∙ ap (λ table. lookup (same_id c.args.id) table.entries) c.own_changes.view_is)
     ∙ c.requires.one q above before
 
 pub returns-in-Some : goal.returns-in-Some
 returns-in-Some c =
-    let within : c.in-Some.at < length c.own_changes.inside.values.items = omega (arith, place_within c.own_changes.inside.names c.args.id c.in-Some.at (sym c.in-Some.ensures), c.own_changes.invariant) in
+    let within : c.in-Some.at < length c.own_changes.inside.values.items = place_below c.own_changes.inside.places c.own_changes.inside.values.items c.own_changes.invariant c.args.id c.in-Some.at (sym c.in-Some.ensures) in
     on_ok_weaker c.write.result
     (λ given. written_changed c.args.own_changes.now.entries _ c.args.id c.args.first c.args.end c.args.was c.args.change c.index_mut.result.now c.write.new.self
-    (λ q. given_at c.own_changes.inside.names c.own_changes.inside.values.items c.args.id c.in-Some.at c.write.new.self (sym c.in-Some.ensures) within q
+    (λ q. value_given c.own_changes.inside.places c.own_changes.inside.values.items c.own_changes.invariant c.args.id c.in-Some.at (sym c.in-Some.ensures) c.write.new.self q
     ∙ ap (λ table. cond (same_id c.args.id q) (Some c.write.new.self) (lookup (same_id q) table.entries)) c.own_changes.view_is)
     (subst (λ (before : Change). IsRewritten (own_change c.index_mut.result.now) before c.args.first c.args.end c.args.was c.args.change (own_change c.write.new.self)) c.first_change-before.ensures given)
     (sym (slice_get_read c.own_changes.inside.values.items _ c.in-Some.at c.index_mut.result.now refl within c.index_mut.ensures.value)
-    ∙ found_at c.own_changes.inside.names c.own_changes.inside.values.items c.args.id c.in-Some.at (sym c.in-Some.ensures) within
+    ∙ placed_value c.own_changes.inside.places c.own_changes.inside.values.items c.own_changes.invariant c.args.id c.in-Some.at (sym c.in-Some.ensures)
     ∙ ap (λ table. lookup (same_id c.args.id) table.entries) c.own_changes.view_is))
     c.write.ensures
 
@@ -44,11 +44,11 @@ returns c =
     given
     (subst (λ (before : Change). IsRewritten (own_change c.new-own.result) before c.args.first c.args.end c.args.was c.args.change (own_change c.write-2.new.self)) c.first_change-before.ensures c.in_ok-write.ensures)
     c.new-own.ensures
-    (found_nowhere c.own_changes.inside.names c.own_changes.inside.values.items c.args.id (sym c.place.ensures ∙ c.in_default.is)
+    (no_place_found c.own_changes.inside.places c.own_changes.inside.values.items c.args.id (sym c.get.ensures ∙ c.in_default.is)
     ∙ ap (λ table. lookup (same_id c.args.id) table.entries) c.own_changes.view_is))
     c.insert.ensures.ok
 
 pub insert-requires : goal.insert-requires
 insert-requires c =
-    sym (found_nowhere c.own_changes.inside.names c.own_changes.inside.values.items c.args.id (sym c.place.ensures ∙ c.in_default.is)
+    sym (no_place_found c.own_changes.inside.places c.own_changes.inside.values.items c.args.id (sym c.get.ensures ∙ c.in_default.is)
     ∙ ap (λ table. lookup (same_id c.args.id) table.entries) c.own_changes.view_is)

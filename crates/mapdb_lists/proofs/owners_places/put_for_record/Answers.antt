@@ -9,23 +9,23 @@ use Rattle.mapdb_lists.specs.declared.own_places.OwnPlaces.{OwnPlaces}
 use Rattle.mapdb_lists.specs.Listing.{places_in}
 use Rattle.mapdb_lists.specs.OwnPlaces.{place_cmp, stands}
 use Rattle.std.proofs.lemmas.Result.{on_ok_weaker}
-use Rattle.mapdb_facts.proofs.NameLemmas.NamedEntries.{found_at, found_nowhere, given_at, place_within}
+use Rattle.mapdb_facts.proofs.NameLemmas.ByPlaces.{no_place_found, place_below, placed_value, value_given}
 use Rattle.mapdb_lists.proofs.owners_places.put_for_record.Goals as goal
 
 pub index_mut-requires : goal.index_mut-requires
-index_mut-requires c = omega (arith, place_within c.records.inside.names c.args.id c.in-Some.at (sym c.in-Some.ensures), c.records.invariant, c.records.inside.values.ok.0)
+index_mut-requires c = omega (arith, place_below c.records.inside.places c.records.inside.values.items c.records.invariant c.args.id c.in-Some.at (sym c.in-Some.ensures), c.records.inside.values.ok.0)
 
 pub returns-in-Some : goal.returns-in-Some
 returns-in-Some c =
-    let within : c.in-Some.at < length c.records.inside.values.items = omega (arith, place_within c.records.inside.names c.args.id c.in-Some.at (sym c.in-Some.ensures), c.records.invariant) in
+    let within : c.in-Some.at < length c.records.inside.values.items = place_below c.records.inside.places c.records.inside.values.items c.records.invariant c.args.id c.in-Some.at (sym c.in-Some.ensures) in
     let found : Some c.index_mut.result.now ≡ lookup (same_id c.args.id) c.args.records.now.entries =
     sym (slice_get_read c.records.inside.values.items _ c.in-Some.at c.index_mut.result.now refl within c.index_mut.ensures.value)
-    ∙ found_at c.records.inside.names c.records.inside.values.items c.args.id c.in-Some.at (sym c.in-Some.ensures) within
+    ∙ placed_value c.records.inside.places c.records.inside.values.items c.records.invariant c.args.id c.in-Some.at (sym c.in-Some.ensures)
     ∙ ap (λ table. lookup (same_id c.args.id) table.entries) c.records.view_is in
     on_ok_weaker c.insert.result
     (λ put. record {
       own = c.insert.new.self;
-      given = λ q. given_at c.records.inside.names c.records.inside.values.items c.args.id c.in-Some.at c.insert.new.self (sym c.in-Some.ensures) within q
+      given = λ q. value_given c.records.inside.places c.records.inside.values.items c.records.invariant c.args.id c.in-Some.at (sym c.in-Some.ensures) c.insert.new.self q
           ∙ ap (λ table. cond (same_id c.args.id q) (Some c.insert.new.self) (lookup (same_id q) table.entries)) c.records.view_is;
       put = λ k. put k ∙ ap (λ (o : Option OwnPlaces). is_at (place_cmp c.args.place) k || stands (places_in o) k) found;
     })
@@ -34,7 +34,7 @@ returns-in-Some c =
 pub returns : goal.returns
 returns c =
     let found : None ≡ lookup (same_id c.args.id) c.args.records.now.entries =
-    found_nowhere c.records.inside.names c.records.inside.values.items c.args.id (sym c.place.ensures ∙ c.in_default.is)
+    no_place_found c.records.inside.places c.records.inside.values.items c.args.id (sym c.get.ensures ∙ c.in_default.is)
     ∙ ap (λ table. lookup (same_id c.args.id) table.entries) c.records.view_is in
     on_ok_weaker c.insert-3.result
     (λ given. record {
@@ -48,5 +48,5 @@ returns c =
 
 pub insert-requires-3 : goal.insert-requires-3
 insert-requires-3 c =
-    sym (found_nowhere c.records.inside.names c.records.inside.values.items c.args.id (sym c.place.ensures ∙ c.in_default.is)
+    sym (no_place_found c.records.inside.places c.records.inside.values.items c.args.id (sym c.get.ensures ∙ c.in_default.is)
     ∙ ap (λ table. lookup (same_id c.args.id) table.entries) c.records.view_is)

@@ -2,20 +2,20 @@ use Rattle.std.proofs.Common.{◌<◌, arith, ap, length, refl, sym, ◌∙◌}
 use Rattle.std.specs.Map.{lookup}
 use Rattle.std.proofs.lemmas.Option.{slice_get_read}
 use Rattle.mapdb_facts.specs.Names.{same_id}
-use Rattle.mapdb_facts.proofs.NameLemmas.NamedEntries.{found_at, found_nowhere, place_within}
+use Rattle.mapdb_facts.proofs.NameLemmas.ByPlaces.{no_place_found, place_below, placed_value}
 use Rattle.mapdb_facts.proofs.by_name.ByName.get.Goals as goal
 
 pub index-requires : goal.index-requires
-index-requires g c = omega (arith, place_within c.self.inside.names c.args.id c.in-Some.at (sym c.in-Some.ensures), c.self.invariant, c.self.inside.values.ok.0)
+index-requires g c = omega (arith, place_below c.self.inside.places c.self.inside.values.items c.self.invariant c.args.id c.in-Some.at (sym c.in-Some.ensures), c.self.inside.values.ok.0)
 
 pub returns-in-Some : goal.returns-in-Some
 returns-in-Some g c =
-    let within : c.in-Some.at < length c.self.inside.values.items = omega (arith, place_within c.self.inside.names c.args.id c.in-Some.at (sym c.in-Some.ensures), c.self.invariant) in
+    let within : c.in-Some.at < length c.self.inside.values.items = place_below c.self.inside.places c.self.inside.values.items c.self.invariant c.args.id c.in-Some.at (sym c.in-Some.ensures) in
     sym (slice_get_read c.self.inside.values.items _ c.in-Some.at c.index.result.now refl within c.index.ensures)
-    ∙ found_at c.self.inside.names c.self.inside.values.items c.args.id c.in-Some.at (sym c.in-Some.ensures) within
+    ∙ placed_value c.self.inside.places c.self.inside.values.items c.self.invariant c.args.id c.in-Some.at (sym c.in-Some.ensures)
     ∙ ap (λ table. lookup (same_id c.args.id) table.entries) c.self.view_is
 
 pub returns-in-None : goal.returns-in-None
 returns-in-None g c =
-    found_nowhere c.self.inside.names c.self.inside.values.items c.args.id (sym c.in-None.ensures)
+    no_place_found c.self.inside.places c.self.inside.values.items c.args.id (sym c.in-None.ensures)
     ∙ ap (λ table. lookup (same_id c.args.id) table.entries) c.self.view_is

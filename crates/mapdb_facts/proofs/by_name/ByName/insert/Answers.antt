@@ -1,28 +1,35 @@
-use Rattle.std.proofs.Common.{◌++◌, ◌∷◌, [], cond, arith, ap, sym, ◌∙◌, ◌≡◌}
-use Rattle.std.specs.Prelude.{Some, map}
-use Rattle.std.proofs.lemmas.List.{length_push}
-use Rattle.std.specs.List.{zip}
+use Rattle.std.proofs.Common.{◌≡◌, [], ◌∷◌, ◌++◌, cond, length, ap, arith, ◌∙◌}
+use Rattle.std.specs.Prelude.{Some}
 use Rattle.std.specs.Map.{lookup}
+use Rattle.mapdb_facts.proofs.Results.{on_err_from}
+use Rattle.mapdb_facts.specs.ByName.{by_places}
 use Rattle.mapdb_facts.specs.Names.{same_id}
-use Rattle.mapdb_facts.specs.NamedValues.{names_of, names_placed, with_name}
-use Rattle.mapdb_facts.proofs.NameLemmas.NamedEntries.{given_added, names_zip, placed_nowhere}
+use Rattle.mapdb_facts.proofs.NameLemmas.ByPlaces.{found_kept, found_more, places_more, unplaced}
 use Rattle.mapdb_facts.proofs.by_name.ByName.insert.Goals as goal
 
-pub add-requires : goal.add-requires
-add-requires g c = placed_nowhere c.self.inside.names c.self.inside.values.items c.args.id c.self.invariant (ap (λ table. lookup (same_id c.args.id) table.entries) c.self.view_is ∙ c.requires)
+pub put-requires : goal.put-requires
+put-requires g c =
+    unplaced c.self.inside.places c.self.inside.values.items c.self.invariant c.args.id
+    (ap (λ table. lookup (same_id c.args.id) table.entries) c.self.view_is ∙ c.requires)
+
+pub returns-in_err-put-clause-err : goal.returns-in_err-put-clause-err
+returns-in_err-put-clause-err g c = on_err_from c.from_residual-in_err-put.result (λ q.
+    ap (λ l. lookup (same_id q) (by_places c.put.new.self l).entries) c.in_ok-reserve.ensures.items
+    ∙ found_kept c.self.inside.places c.self.inside.values.items c.self.invariant c.put.new.self c.in_err-put.ensures.err q
+    ∙ ap (λ table. lookup (same_id q) table.entries) c.self.view_is)
+
+pub invariant_of-self-2 : goal.invariant_of-self-2
+invariant_of-self-2 g c =
+    let values = c.self.inside.values.items in
+    let end : c.len.result ≡ length values = omega (arith, c.len.ensures, c.in_ok-reserve.ensures.len, c.self.inside.values.ok.0) in
+    let more : c.push_reserved.new.self.items ≡ values ++ c.args.value ∷ [] =
+    c.push_reserved.ensures.items ∙ ap (λ l. l ++ c.args.value ∷ []) c.in_ok-reserve.ensures.items in
+    rw more (places_more c.self.inside.places values c.self.invariant c.put.new.self c.args.id c.args.value c.len.result end c.in_ok-put.ensures.ok c.in_ok-put.ensures.few)
 
 pub returns-clause-ok : goal.returns-clause-ok
 returns-clause-ok g c = λ q.
-    ap (λ names. lookup (same_id q) (zip names c.push_reserved.new.self.items)) c.in_ok-add.ensures.ok
-    ∙ ap (λ values. lookup (same_id q) (zip (c.self.inside.names ++ c.args.id ∷ []) values)) (c.push_reserved.ensures.items ∙ ap (λ values. values ++ c.args.value ∷ []) c.in_ok-reserve.ensures.items)
-    ∙ given_added c.self.inside.names c.self.inside.values.items c.args.id c.args.value (placed_nowhere c.self.inside.names c.self.inside.values.items c.args.id c.self.invariant (ap (λ table. lookup (same_id c.args.id) table.entries) c.self.view_is ∙ c.requires)) c.self.invariant q
+    let values = c.self.inside.values.items in
+    let end : c.len.result ≡ length values = omega (arith, c.len.ensures, c.in_ok-reserve.ensures.len, c.self.inside.values.ok.0) in
+    ap (λ l. lookup (same_id q) (by_places c.put.new.self l).entries) (c.push_reserved.ensures.items ∙ ap (λ l. l ++ c.args.value ∷ []) c.in_ok-reserve.ensures.items)
+    ∙ found_more c.self.inside.places values c.self.invariant c.put.new.self c.args.id c.args.value c.len.result end c.in_ok-put.ensures.ok q
     ∙ ap (λ table. cond (same_id c.args.id q) (Some c.args.value) (lookup (same_id q) table.entries)) c.self.view_is
-
-pub returns-clause-names : goal.returns-clause-names
-returns-clause-names g c =
-    let names = c.self.inside.names in
-    let before : names_of c.args.self.now ≡ names = ap (λ table. names_of table) (sym c.self.view_is) ∙ names_zip names c.self.inside.values.items c.self.invariant in
-    ap (λ held. map (λ e. e.0) (zip held c.push_reserved.new.self.items)) c.in_ok-add.ensures.ok
-    ∙ ap (λ values. map (λ e. e.0) (zip (names ++ c.args.id ∷ []) values)) (c.push_reserved.ensures.items ∙ ap (λ values. values ++ c.args.value ∷ []) c.in_ok-reserve.ensures.items)
-    ∙ names_zip (names ++ c.args.id ∷ []) (c.self.inside.values.items ++ c.args.value ∷ []) (omega (arith, length_push names c.args.id, length_push c.self.inside.values.items c.args.value, c.self.invariant))
-    ∙ sym (ap (λ held. with_name held c.args.id) before ∙ ap (names_placed names c.args.id) (placed_nowhere c.self.inside.names c.self.inside.values.items c.args.id c.self.invariant (ap (λ table. lookup (same_id c.args.id) table.entries) c.self.view_is ∙ c.requires)))

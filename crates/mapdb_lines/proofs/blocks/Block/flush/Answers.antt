@@ -2,7 +2,8 @@ use Rattle.std.proofs.Common.{◌≡◌, ℕ, ◌+◌, List, [], ◌∙◌, arit
 use Rattle.std.specs.Prelude.{slice_range}
 use mathlib.Core.Bool.{or-false}
 use Rattle.mapdb_lines.specs.Blocks.{waiting}
-use Rattle.mapdb_lines.proofs.BlockLemmas.{on_err_of, passes-then, passes-written, passes_none_left}
+use Rattle.mapdb_facts.proofs.Results.{on_err_from}
+use Rattle.mapdb_lines.proofs.BlockLemmas.{passes-then, passes-written, passes_none_left}
 use Rattle.mapdb_lines.proofs.LineLemmas.{slice_range_drop, length_range}
 use Rattle.mapdb_lines.proofs.blocks.Block.flush.Goals as goal
 
@@ -25,4 +26,4 @@ returns-in_err-self-clause-asked g c =
     let old = c.loop-self.self in
     let size = length_range old.piece.items old.start old.end (omega (arith, old.piece.ok.0)) in
     let passes = c.loop-self.invariant.passes in
-    on_err_of c.from_residual.result (λ nothing. absurd (passes_none_left (waiting c.args.self.now) passes.0 (waiting old) passes.2 nothing (omega arith)))
+    on_err_from c.from_residual.result (λ nothing. absurd (passes_none_left (waiting c.args.self.now) passes.0 (waiting old) passes.2 nothing (omega arith)))

@@ -1,7 +1,8 @@
 use Rattle.std.proofs.Common.{[], refl}
 use Rattle.std.proofs.lemmas.Result.{on_err_weaker, on_ok_weaker}
 use Rattle.mapdb_lines.specs.Blocks.{waiting}
-use Rattle.mapdb_lines.proofs.BlockLemmas.{on_err_of, passes-direct, passes-then}
+use Rattle.mapdb_facts.proofs.Results.{on_err_from}
+use Rattle.mapdb_lines.proofs.BlockLemmas.{passes-direct, passes-then}
 use Rattle.mapdb_lines.proofs.blocks.Block.put.Goals as goal
 
 pub returns-then-text-gt-BLOCK_BYTES-clause-ok : goal.returns-then-text-gt-BLOCK_BYTES-clause-ok
@@ -21,4 +22,4 @@ returns-then-text-gt-BLOCK_BYTES-clause-err g c =
     )) c.write_all.ensures.err
 
 pub returns-in_err-flush-clause-err : goal.returns-in_err-flush-clause-err
-returns-in_err-flush-clause-err g c = on_err_of c.from_residual.result ([], (c.args.text.now, refl), c.in_err-flush.ensures.told)
+returns-in_err-flush-clause-err g c = on_err_from c.from_residual.result ([], (c.args.text.now, refl), c.in_err-flush.ensures.told)

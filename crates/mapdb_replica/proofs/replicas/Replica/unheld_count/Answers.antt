@@ -7,17 +7,13 @@ use Rattle.mapdb_facts.specs.WellFormed.{all_formed}
 use Rattle.mapdb_facts.specs.declared.operations.Op.{Op}
 use Rattle.mapdb_replica.proofs.News.Unfinished.{any_kept}
 use Rattle.mapdb_replica.proofs.News.UnheldClashes.{formed-filter}
+use Rattle.mapdb_facts.proofs.Results.{on_err_from}
 use Rattle.mapdb_replica.proofs.replicas.Replica.unheld_count.Goals as goal
 
 pub refusal-requires : goal.refusal-requires
 refusal-requires c =
     subst (λ (ops : List Op). all_formed ops ≡ true) (sym (c.as_slice.ensures.value ∙ c.in_ok-unheld.ensures.unheld))
     (formed-filter (is_new (state_of c.args.self.now.ops)) c.args.batch.now c.requires)
-
--- what holds, holds of an error
-on_err_from : {T E A : Type 0} (r : Result T E) → A → OnErr r A
-on_err_from (Ok v) h = tt
-on_err_from (Err e) h = h
 
 pub returns-in_err-fault-clause-some : goal.returns-in_err-fault-clause-some
 returns-in_err-fault-clause-some c =
