@@ -1,7 +1,7 @@
 -- The places of one owner, how they are ordered, and which of them meet pages.
 use Rattle.std.specs.Prelude.{◌≡◌, ℕ, Bool, true, false, ◌&&◌, ◌+◌, ◌-◌, ◌*◌, ◌%◌, ◌^◌, ◌≤◌, ◌<◌}
 use Rattle.std.specs.Prelude.{nat_lt, min, max, List, Option, Some, None, if◌then◌else◌, ◌⊎◌, []}
-use Rattle.std.specs.Prelude.{drop, filter, length}
+use Rattle.std.specs.Prelude.{◌∷◌, drop, filter, length}
 use Rattle.std.specs.BTreeMap.Range.{IsLeBy}
 use Rattle.std.specs.Ordering.{is_lt}
 use Rattle.mapdb_fpage.specs.Bounds.{least_order, page_limit, top_order}
@@ -11,17 +11,19 @@ use Rattle.mapdb_lists.specs.declared.own_places.FoundPlace.{FoundPlace}
 use Rattle.mapdb_lists.specs.declared.own_places.NextPlace.{NextPlace}
 use Rattle.mapdb_lists.specs.declared.own_places.OwnPlace.{OwnPlace}
 use Rattle.mapdb_lists.specs.declared.own_places.OwnPlaces.{OwnPlaces}
-use Rattle.mapdb_lists.specs.declared.own_places.OwnPlaces.TheVariants.{Few, Many}
+use Rattle.mapdb_lists.specs.declared.own_places.OwnPlaces.TheVariants.{Few, Many, One}
 use Rattle.mapdb_lists.specs.declared.own_places.Sweep.{Sweep}
 use Rattle.mapdb_lists.specs.declared.place_sets.Spot.{Spot}
 
 -- the places of the owner, each once or more
 abbrev pub own_list : OwnPlaces → List OwnPlace
+own_list (One place) = place ∷ []
 own_list (Few list) = list.items
-own_list (Many many) = many.places
+own_list (Many many) = many.value.places
 
 -- the places of the owner as they came, where they are a few
 abbrev pub few_list : OwnPlaces → Option (List OwnPlace)
+few_list (One place) = Some (place ∷ [])
 few_list (Few list) = Some list.items
 few_list (Many many) = None
 
@@ -160,8 +162,9 @@ many_ahead places sweep = if sweep.over then [] else filter (is_beyond sweep.aft
 
 -- the places that a sweep has ahead
 abbrev pub ahead : OwnPlaces → Sweep → List OwnPlace
+ahead (One place) = few_ahead (place ∷ [])
 ahead (Few list) = few_ahead list.items
-ahead (Many many) = many_ahead many.places
+ahead (Many many) = many_ahead many.value.places
 
 -- one of the places that meet the pages; all others that a sweep had ahead, and that meet them, are
 -- still ahead of it, and it has fewer ahead

@@ -10,7 +10,6 @@ ghost use Rattle.mapdb_lists.specs.OwnPlaces.{stands};
 ghost use Rattle.mapdb_lists.specs.declared.own_places.OwnPlace.{OwnPlace};
 
 use crate::own_places::{NextPlace, OwnPlace, Sweep};
-use smallvec::SmallVec;
 use std::ops::Bound;
 
 /// The lesser of two places, where there is another.
@@ -131,7 +130,7 @@ pub(crate) fn next_of_few(
 }
 
 /// Takes a place out of a few, as often as it stands among them. It takes no memory.
-pub(crate) fn few_remove(places: &mut SmallVec<OwnPlace, 1>, place: OwnPlace)
+pub(crate) fn few_remove(places: &mut Vec<OwnPlace>, place: OwnPlace)
     ensures { (k : OwnPlace) → stands places.new.items k
         ≡ (not (is_at (place_cmp place) k) && stands places.old.items k) }
 {

@@ -1,4 +1,4 @@
-//! The places of one owner: a few as they came, many in their order.
+//! The places of one owner: one by itself, a few as they came, many in their order.
 
 ghost use Rattle.std.specs.Prelude.{◌≡◌, ◌≤◌, ◌<◌, ◌-◌, ◌^◌, ◌&&◌, ◌||◌, IfOk, IfSome, OnOk, []};
 ghost use Rattle.std.specs.Prelude.{not, option_map};
@@ -18,9 +18,9 @@ use crate::limits::FEW_PLACES;
 use crate::many_places::ManyPlaces;
 use mapdb_facts::RecordId;
 use mapdb_fpage::{LEAST_ORDER, PAGE_LIMIT, TOP_ORDER};
-use smallvec::SmallVec;
 use std::alloc::{AllocError, Global};
 use std::ops::Bound;
+use std::slice::from_ref;
 
 /// A place of an owner, and the record that stands for it.
 #[derive(Clone, Copy, Debug, Default, PartialEq, Eq, PartialOrd, Ord)]
@@ -151,13 +151,15 @@ fn place_of(found: Option<FoundPlace>) -> Option<OwnPlace>
     }
 }
 
-/// All places of an owner.
+/// All places of an owner. Most owners have one place, so these take no more room than one needs.
 #[derive(Drop)]
 pub enum OwnPlaces {
-    /// A few, as they came.
-    Few(SmallVec<OwnPlace, 1>),
-    /// Many, in ascending order.
-    Many(ManyPlaces),
+    /// One, which takes no memory besides.
+    One(OwnPlace),
+    /// A few, as they came, or none.
+    Few(Vec<OwnPlace>),
+    /// Many, in ascending order: apart, so that they make no other owner's places larger.
+    Many(Box<ManyPlaces>),
 }
 
 /// These places as many.
@@ -177,7 +179,7 @@ impl OwnPlaces {
     pub(crate) fn new(alloc: Global) -> OwnPlaces
         ensures { own_list result ≡ [] }
     {
-        OwnPlaces::Few(SmallVec::new(alloc))
+        OwnPlaces::Few(Vec::new(alloc))
     }
 
     /// The least place from one on.
@@ -186,6 +188,7 @@ impl OwnPlaces {
             result }
     {
         match self {
+            OwnPlaces::One(place) => least_inside(from_ref(place), &Bound::Included(from)),
             OwnPlaces::Few(list) => least_inside(list.as_slice(), &Bound::Included(from)),
             OwnPlaces::Many(many) => many.first_from(from),
         }
@@ -197,6 +200,7 @@ impl OwnPlaces {
             result }
     {
         match self {
+            OwnPlaces::One(place) => least_inside(from_ref(place), &Bound::Excluded(after)),
             OwnPlaces::Few(list) => least_inside(list.as_slice(), &Bound::Excluded(after)),
             OwnPlaces::Many(many) => many.first_above(after),
         }
@@ -213,6 +217,7 @@ impl OwnPlaces {
         ensures { IsNextPlace (own_list self.now) first end after result }
     {
         match self {
+            OwnPlaces::One(place) => least_meeting(from_ref(place), first, end, after),
             OwnPlaces::Few(list) => least_meeting(list.as_slice(), first, end, after),
             OwnPlaces::Many(many) => place_of(many.next_meeting(first, end, after, 0)),
         }
@@ -224,6 +229,7 @@ impl OwnPlaces {
         ensures { option_copied result ≡ few_list self.now }
     {
         match self {
+            OwnPlaces::One(place) => Some(from_ref(place)),
             OwnPlaces::Few(list) => Some(list.as_slice()),
             OwnPlaces::Many(_) => None,
         }
@@ -236,6 +242,7 @@ impl OwnPlaces {
         ensures { IsSweptOn (own_list self.now) (ahead self.now) first end sweep result }
     {
         match self {
+            OwnPlaces::One(place) => next_of_few(from_ref(place), first, end, sweep),
             OwnPlaces::Few(list) => next_of_few(list.as_slice(), first, end, sweep),
             OwnPlaces::Many(many) => next_of_many(many, first, end, sweep),
         }
@@ -265,21 +272,22 @@ impl OwnPlaces {
             ≡ stands (own_list self.old) k) }
     {
         if let Some(many) = self.outgrown(alloc)? {
-            *self = OwnPlaces::Many(many);
+            *self = OwnPlaces::Many(Box::new(alloc, many)?);
         }
         Ok(())
     }
 
-    /// Puts one place more where the places are kept now. An error where memory ran out.
+    /// Puts one place more where the places are kept now: the first by itself, and a second into a
+    /// list with room for both. An error where memory ran out.
     #[inline(always)]
     fn put(&mut self, alloc: Global, place: OwnPlace) -> Result<(), AllocError>
         ensures { OnOk result ((k : OwnPlace) → stands (own_list self.new) k
             ≡ (is_at (place_cmp place) k || stands (own_list self.old) k)) }
     {
         match self {
-            OwnPlaces::Few(list) => {
-                list.push(place)?;
-            }
+            OwnPlaces::One(other) => *self = OwnPlaces::Few(vec![in alloc; *other, place]?),
+            OwnPlaces::Few(list) if list.is_empty() => *self = OwnPlaces::One(place),
+            OwnPlaces::Few(list) => list.push(place)?,
             OwnPlaces::Many(many) => many.insert(alloc, place)?,
         }
         Ok(())
@@ -296,11 +304,13 @@ impl OwnPlaces {
     }
 
     /// Takes a place out, where it stands here. It takes no memory, and many places stay many.
-    pub(crate) fn remove(&mut self, place: OwnPlace)
+    pub(crate) fn remove(&mut self, alloc: Global, place: OwnPlace)
         ensures { (k : OwnPlace) → stands (own_list self.new) k
             ≡ (not (is_at (place_cmp place) k) && stands (own_list self.old) k) }
     {
         match self {
+            OwnPlaces::One(only) if *only == place => *self = OwnPlaces::new(alloc),
+            OwnPlaces::One(_) => {}
             OwnPlaces::Few(list) => few_remove(list, place),
             OwnPlaces::Many(many) => many.remove(place),
         }

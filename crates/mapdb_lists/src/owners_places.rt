@@ -71,20 +71,25 @@ fn put_for_space(
 }
 
 /// Takes a place out of those of a record, where it has places. It takes no memory.
-fn remove_for_record(records: &mut ByName<OwnPlaces>, id: RecordId, place: OwnPlace)
+fn remove_for_record(records: &mut ByName<OwnPlaces>, alloc: Global, id: RecordId, place: OwnPlace)
     ensures { IsRemoved RecordId same_id records.old.entries records.new.entries id place }
 {
     if let Some(at) = records.places.get(id) {
-        records.values[at].remove(place);
+        records.values[at].remove(alloc, place);
     }
 }
 
 /// Takes a place out of those of a space, where it has places. It takes no memory.
-fn remove_for_space(spaces: &mut HashMap<Space, OwnPlaces>, space: Space, place: OwnPlace)
+fn remove_for_space(
+    spaces: &mut HashMap<Space, OwnPlaces>,
+    alloc: Global,
+    space: Space,
+    place: OwnPlace,
+)
     ensures { IsRemoved Space same_space spaces.old.entries spaces.new.entries space place }
 {
     if let Some(own) = spaces.get_mut(&space) {
-        own.remove(place);
+        own.remove(alloc, place);
     }
 }
 
@@ -129,8 +134,8 @@ impl OwnersPlaces {
         ensures { IsRemoved Owner same_owner self.old.entries self.new.entries owner place }
     {
         match owner {
-            Owner::Record(id) => remove_for_record(&mut self.records, id, place),
-            Owner::Space(space) => remove_for_space(&mut self.spaces, space, place),
+            Owner::Record(id) => remove_for_record(&mut self.records, self.alloc, id, place),
+            Owner::Space(space) => remove_for_space(&mut self.spaces, self.alloc, space, place),
         }
     }
 }

@@ -1,9 +1,8 @@
 -- A place less: what stands in a list, at an owner, and among all that is listed once a place was taken out.
-use Rattle.std.proofs.Common.{◌≡◌, ℕ, ◌+◌, ◌<◌, ◌≤◌, Bool, true, false, cond, refl, sym, ap, subst, List, [], ◌∷◌, get_or, length, ◌∙◌, inl, inr, arith}
+use Rattle.std.proofs.Common.{◌≡◌, ℕ, ◌+◌, ◌<◌, ◌≤◌, Bool, true, false, cond, refl, sym, ap, subst, List, ◌∷◌, get_or, length, ◌∙◌, inl, inr, arith}
 use Rattle.std.specs.Prelude.{◌⊎◌, ◌&&◌, ◌||◌, not, filter, Option, None, Some}
 use Rattle.std.specs.BTreeMap.{is_at}
 use Rattle.std.specs.List.{remove}
-use Rattle.std.specs.List.Retain.{RetainsInTurn}
 use Rattle.std.specs.List.Sorted.{IsPartitionPoint}
 use Rattle.std.specs.Map.{lookup}
 use Rattle.std.specs.Ordering.{is_eq, is_lt}
@@ -86,16 +85,6 @@ stands_nowhere places ascend index p parted new =
         ∙ parted.1 index p (omega arith) (omega (arith, behind, inside)))
 
 -- ---- a few places as they came
-
--- what a closure keeps that changes nothing is what passes its test
-pub kept_by : {F : Type 0} (R : F → OwnPlace → Bool → F → OwnPlace → Type 0) (test : OwnPlace → Bool) (f : F)
-    → ((x : OwnPlace) (b : Bool) (t : F) (y : OwnPlace) → R f x b t y → (b ≡ test x) × (t ≡ f) × (y ≡ x))
-    → (xs ys : List OwnPlace) → RetainsInTurn R f xs ys → ys ≡ filter test xs
-kept_by R test f says [] ys h = h
-kept_by R test f says (x ∷ xs) ys (b, t, y, r, zs, rest, is) =
-    let said = says x b t y r in
-    let later = kept_by R test f says xs zs (subst (λ g. RetainsInTurn R g xs zs) said.1 rest) in
-    is ∙ (λ i. cond (said.0 i) (said.2 i ∷ later i) (later i))
 
 -- what the derived test tells apart differs in the order
 pub at_ne : (p x : OwnPlace) → not (derived_eq x p) ≡ not (is_at (place_cmp p) x)

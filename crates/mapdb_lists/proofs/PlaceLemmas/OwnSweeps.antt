@@ -6,11 +6,11 @@ use Rattle.std.specs.Ordering.{is_lt}
 use Rattle.std.proofs.lemmas.Bool.{and_from, and_parts, true≢false}
 use Rattle.std.proofs.lemmas.Cmp.{tied_itself}
 use Rattle.std.proofs.lemmas.Map.Views.{any-filter_same}
-use Rattle.std.proofs.lemmas.Option.{none-some}
+use Rattle.std.proofs.lemmas.Option.{none-some, same_Some}
 use Rattle.mapdb_lists.specs.declared.own_places.FoundPlace.{FoundPlace}
 use Rattle.mapdb_lists.specs.declared.own_places.OwnPlace.{OwnPlace}
 use Rattle.mapdb_lists.specs.declared.own_places.OwnPlaces.{OwnPlaces}
-use Rattle.mapdb_lists.specs.declared.own_places.OwnPlaces.TheVariants.{Few, Many}
+use Rattle.mapdb_lists.specs.declared.own_places.OwnPlaces.TheVariants.{Few, Many, One}
 use Rattle.mapdb_lists.specs.declared.own_places.Sweep.{Sweep}
 use Rattle.mapdb_lists.specs.OwnPlaces.{IsLastWhereSaid, IsLeastNext, IsNextPlace, IsSweptTo, ahead, at_start, few_list, is_beyond, many_ahead, own_list, own_meets, place_cmp, stands}
 use Rattle.mapdb_lists.proofs.Lists.Entries.{fewer}
@@ -80,8 +80,9 @@ module _ (places : List OwnPlace) (first end : ℕ) where
 
 -- at the start all are ahead
 all_ahead : (own : OwnPlaces) → ahead own at_start ≡ own_list own
+all_ahead (One place) = refl
 all_ahead (Few list) = refl
-all_ahead (Many many) = all many.places
+all_ahead (Many many) = all many.value.places
   where
     all : (xs : List OwnPlace) → filter (is_beyond None) xs ≡ xs
     all [] = refl
@@ -97,9 +98,6 @@ start_ahead own sweep is p has = ap (λ (s : Sweep). stands (ahead own s) p) is 
 
 -- a few places are all of the owner's
 pub few_are_all : (own : OwnPlaces) (places : List OwnPlace) → Some places ≡ few_list own → places ≡ own_list own
-few_are_all (Few list) places is = ap unwrapped is
-  where
-    unwrapped : Option (List OwnPlace) → List OwnPlace
-    unwrapped None = []
-    unwrapped (Some items) = items
+few_are_all (One place) places is = same_Some places (place ∷ []) is
+few_are_all (Few list) places is = same_Some places list.items is
 few_are_all (Many many) places is = absurd (none-some places (sym is))
