@@ -5,3 +5,4 @@ pub mod ManyChanges
 pub mod RecordChanges
 pub mod Writing
 pub mod MovedChanges
+pub mod SharedShift

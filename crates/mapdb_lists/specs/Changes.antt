@@ -44,39 +44,39 @@ abbrev pub past_the_end : Change
 past_the_end = record { rights = no_rights; shift = page_limit }
 
 -- what the last change up to a page leaves
-unfoldable pub changed : (ℕ → Option Change) → Change → ℕ → Change
+unfoldable pub changed : {V : Type 0} → (ℕ → Option V) → V → ℕ → V
 changed change first zero = unwrap_or (change zero) first
 changed change first (suc page) = unwrap_or (change (suc page)) (changed change first page)
 
 -- what the changes in front of a page leave
-abbrev pub left_before : (ℕ → Option Change) → Change → ℕ → Change
+abbrev pub left_before : {V : Type 0} → (ℕ → Option V) → V → ℕ → V
 left_before change first zero = first
 left_before change first (suc page) = changed change first page
 
 -- Pages over which one change stood were given another: it stands at the first of them, by itself
 -- or since it stood in front of them; what follows at their end stays, and so do all other changes.
-pub record IsRewritten (old : ℕ → Option Change) (before : Change) (first end : ℕ)
-    (was change : Change) (new : ℕ → Option Change) : Type 0 where
+pub record IsRewritten {V : Type 0} (old : ℕ → Option V) (before : V) (first end : ℕ)
+    (was change : V) (new : ℕ → Option V) : Type 0 where
   pub at_first : unwrap_or (new first) (left_before old before first) ≡ change
   pub at_end : end < page_limit → unwrap_or (new end) change ≡ unwrap_or (old end) was
   pub elsewhere : (q : ℕ) → (first ≡ q → ⊥) → (end ≡ q → ⊥) → new q ≡ old q
 
 -- The change at the first of pages goes, since they get what stands in front of them, and none is
 -- at their end, where what follows has to begin.
-pub record MovesOn (at : ℕ → Option Change) (before : Change) (first end : ℕ) (change : Change)
+pub record MovesOn {V : Type 0} (at : ℕ → Option V) (before : V) (first end : ℕ) (change : V)
     : Type 0 where
   pub left : change ≡ left_before at before first
   pub none : at end ≡ None
 
 -- The change at the end of pages goes, since they get the same, and they have to begin with one,
 -- since they do not get what stands in front of them.
-pub record MovesBack (at : ℕ → Option Change) (before : Change) (first end : ℕ) (change : Change)
+pub record MovesBack {V : Type 0} (at : ℕ → Option V) (before : V) (first end : ℕ) (change : V)
     : Type 0 where
   pub same : at end ≡ Some change
   pub other : change ≢ left_before at before first
 
 -- where pages are given a change, one goes and one comes, with no other between them
-abbrev pub IsOneForOne : (ℕ → Option Change) → Change → ℕ → ℕ → Change → Type 0
+abbrev pub IsOneForOne : {V : Type 0} → (ℕ → Option V) → V → ℕ → ℕ → V → Type 0
 IsOneForOne at before first end change = (end < page_limit)
     × ((IsSome (at first) × MovesOn at before first end change)
     ⊎ ((at first ≡ None) × MovesBack at before first end change))

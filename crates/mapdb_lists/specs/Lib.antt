@@ -6,3 +6,4 @@ pub mod Listing
 pub mod PageOrder
 pub mod OwnChanges
 pub mod Changes
+pub mod FewChanges

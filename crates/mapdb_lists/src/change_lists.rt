@@ -1,47 +1,56 @@
-//! Changes of a record in a list in ascending order of page, found by halving it.
+//! Rights of a record by page in a list in ascending order of page, found by halving it.
 
 ghost use Rattle.std.specs.Prelude.{◌≡◌, ◌≤◌, ◌<◌, ℕ, IfErr, IfOk, get_or, length};
-ghost use Rattle.mapdb_lists.specs.Changes.{IsStretch};
-ghost use Rattle.mapdb_lists.specs.OwnChanges.{IsLastUpTo, IsNoneUntil, listed_change};
-ghost use Rattle.mapdb_lists.specs.OwnChanges.{mapped_change};
+ghost use Rattle.mapdb_lists.specs.FewChanges.{listed_rights, shown};
+ghost use Rattle.mapdb_lists.specs.OwnChanges.{IsLastUpTo, IsNoneUntil, mapped_change};
 ghost use Rattle.mapdb_lists.specs.PageOrder.{IsGap, IsSpot, PagesRise, StandsAtPage};
-ghost use Rattle.mapdb_lists.specs.declared.few_changes.PageChange.{PageChange};
+ghost use Rattle.mapdb_lists.specs.declared.few_changes.PageRights.{PageRights};
 
-use crate::changes::{Change, Stretch};
-use crate::few_changes::PageChange;
+use crate::changes::Change;
+use crate::few_changes::PageRights;
 use crate::many_changes::many_put;
-use mapdb_fpage::PAGE_LIMIT;
+use mapdb_fpage::{PAGE_LIMIT, Rights};
 use std::alloc::{AllocError, Global};
 use std::collections::BTreeMap;
 
 /// How many of the changes stand at a page or in front of it.
 #[inline(always)]
-fn spot_of(list: &[PageChange], page: u64) -> usize
+fn spot_of(list: &[PageRights], page: u64) -> usize
     requires { PagesRise list.now }
     ensures { IsSpot list.now page result }
 {
     list.partition_point(|next| next.page <= page)
 }
 
-/// The last change up to a page, and where it stands.
-pub(crate) fn list_last(list: &[PageChange], page: u64) -> Option<(u64, Change)>
-    requires { PagesRise list.now }
-    ensures { IsLastUpTo (listed_change list.now) page result }
+/// The last change of so many, and where it stands.
+#[inline(always)]
+fn last_at(list: &[PageRights], spot: usize) -> Option<(u64, Rights)>
+    requires rise { PagesRise list.now }
+    requires inside { spot ≤ length list.now }
+    ensures { (page : ℕ) → IsSpot list.now page spot
+        → IsLastUpTo (listed_rights list.now) page result }
 {
-    let spot = spot_of(list, page);
     if spot == 0 {
         return None;
     }
     let last = list[spot - 1];
-    Some((last.page, last.change))
+    Some((last.page, last.rights))
+}
+
+/// The last change up to a page, and where it stands.
+pub(crate) fn list_last(list: &[PageRights], page: u64) -> Option<(u64, Rights)>
+    requires { PagesRise list.now }
+    ensures { IsLastUpTo (listed_rights list.now) page result }
+{
+    last_at(list, spot_of(list, page))
 }
 
 /// The page of the change at a spot: the end of the space where there is none.
-fn end_at(list: &[PageChange], spot: usize) -> u64
-    ensures there { (d : PageChange) → spot < length list.now
+fn end_at(list: &[PageRights], spot: usize) -> u64
+    ensures there { (d : PageRights) → spot < length list.now
         → result ≤ (get_or list.now spot d).page }
     ensures limit { result ≤ PAGE_LIMIT }
-    ensures above { (page : ℕ) → page < PAGE_LIMIT → ((d : PageChange) → spot < length list.now
+    ensures above { (page : ℕ) → page < PAGE_LIMIT → ((d : PageRights) → spot < length list.now
         → page < (get_or list.now spot d).page) → page < result }
 {
     if spot < list.len() {
@@ -52,39 +61,34 @@ fn end_at(list: &[PageChange], spot: usize) -> u64
 }
 
 /// The page of the next change behind a page: the end of the space where there is none.
-pub(crate) fn list_next(list: &[PageChange], page: u64) -> u64
+pub(crate) fn list_next(list: &[PageRights], page: u64) -> u64
     requires rise { PagesRise list.now }
     requires limit { page < PAGE_LIMIT }
     ensures above { page < result }
     ensures limit { result ≤ PAGE_LIMIT }
-    ensures none { IsNoneUntil (listed_change list.now) page result }
+    ensures none { IsNoneUntil (listed_rights list.now) page result }
 {
     let spot = spot_of(list, page);
     end_at(list, spot)
 }
 
-/// What stands at a page, and how far, where this stands before any change: both are found by one
-/// search.
+/// The last change up to a page, and where it stands, with the page of the next one, or the end of
+/// the space: both are found by one search.
 #[inline(always)]
-pub(crate) fn list_stretch(list: &[PageChange], first: Change, page: u64) -> Stretch
+pub(crate) fn list_stretch(list: &[PageRights], page: u64) -> (Option<(u64, Rights)>, u64)
     requires rise { PagesRise list.now }
     requires limit { page < PAGE_LIMIT }
-    ensures { IsStretch (listed_change list.now) first page result }
+    ensures last { IsLastUpTo (listed_rights list.now) page result.0 }
+    ensures above { page < result.1 }
+    ensures limit { result.1 ≤ PAGE_LIMIT }
+    ensures none { IsNoneUntil (listed_rights list.now) page result.1 }
 {
     let spot = spot_of(list, page);
-    let end = end_at(list, spot);
-    if spot == 0 {
-        return Stretch { change: first, end };
-    }
-    let last = list[spot - 1];
-    Stretch {
-        change: last.change,
-        end,
-    }
+    (last_at(list, spot), end_at(list, spot))
 }
 
 /// Where the change at a page stands, or else where one belongs.
-pub(crate) fn index_of(list: &[PageChange], page: u64) -> Result<usize, usize>
+pub(crate) fn index_of(list: &[PageRights], page: u64) -> Result<usize, usize>
     requires { PagesRise list.now }
     ensures there { IfOk result (StandsAtPage list.now page) }
     ensures gap { IfErr result (IsGap list.now page) }
@@ -97,18 +101,20 @@ pub(crate) fn index_of(list: &[PageChange], page: u64) -> Result<usize, usize>
     }
 }
 
-/// These changes as a map. An error where memory ran out.
+/// These rights as a map of changes, all that are some with this shift. An error where memory ran
+/// out.
 pub(crate) fn map_of(
     alloc: Global,
-    list: &[PageChange],
+    shift: u64,
+    list: &[PageRights],
 ) -> Result<BTreeMap<u64, Change>, AllocError>
     requires { PagesRise list.now }
     ensures { IfOk result (λ map. (page : ℕ) → mapped_change map page
-        ≡ listed_change list.now page) }
+        ≡ shown shift (listed_rights list.now page)) }
 {
     let mut map = BTreeMap::new(alloc);
     for next in list {
-        many_put(&mut map, next.page, next.change)?;
+        many_put(&mut map, next.page, Change::with_shift(shift, next.rights))?;
     }
     Ok(map)
 }

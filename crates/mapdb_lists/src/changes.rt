@@ -3,7 +3,8 @@
 ghost use Rattle.std.specs.Prelude.{◌≡◌, ◌≤◌, ◌<◌, ◌+◌, ℕ, None, OnOk, [], true, if◌then◌else◌};
 ghost use Rattle.mapdb_facts.specs.declared.names.RecordId.{RecordId};
 ghost use Rattle.mapdb_lists.specs.Changes.{IsStretch, IsWritten, at_first, cached_in, change_at};
-ghost use Rattle.mapdb_lists.specs.Changes.{past_the_end, seen_in, covers};
+ghost use Rattle.mapdb_lists.specs.Changes.{changed, covers, past_the_end, seen_in};
+ghost use Rattle.mapdb_lists.specs.FewChanges.{with_shift};
 ghost use Rattle.mapdb_lists.specs.OwnChanges.{IsLastUpTo, IsNoneUntil};
 
 use crate::own_changes::OwnChanges;
@@ -27,6 +28,16 @@ impl Change {
         rights: Rights::NONE,
         shift: PAGE_LIMIT,
     };
+
+    /// The change to rights whose frames lie this far off. Where there are no rights, it is the one
+    /// that stands for none.
+    #[inline(always)]
+    pub fn with_shift(shift: u64, rights: Rights) -> Change
+        ensures { result ≡ with_shift shift rights }
+    {
+        let shift = if rights.is_none() { PAGE_LIMIT } else { shift };
+        Change { rights, shift }
+    }
 
     /// Whether both are the same.
     pub fn is(self, other: Change) -> bool
@@ -194,6 +205,7 @@ fn write_among(
 ) -> Result<(), AllocError>
     requires some { first < end }
     requires one { IsNoneUntil (change_at own_changes.old.entries id) first end }
+    requires was { was ≡ changed (change_at own_changes.old.entries id) (at_first id) first }
     ensures { OnOk result (IsWritten own_changes.old.entries id first end was change
         own_changes.new.entries) }
 {

@@ -1,68 +1,85 @@
-//! A few changes of a record, in ascending order of page.
+//! A few changes of a record, in ascending order of page, with one shift for all of them.
 
 use crate::change_lists::{list_last, list_next, list_stretch, map_of};
 use crate::changes::{Change, Stretch};
 use crate::list_writes::list_write;
-use mapdb_fpage::PAGE_LIMIT;
+use mapdb_fpage::{PAGE_LIMIT, Rights};
 use smallvec::SmallVec;
 use std::alloc::{AllocError, Global};
 use std::collections::BTreeMap;
 use std::marker::Model;
 
-/// A page from which something else stands.
-#[derive(Clone, Copy, Debug, Default)]
-pub struct PageChange {
+/// A page from which other rights stand.
+#[derive(Clone, Copy, Debug)]
+pub struct PageRights {
     /// The page.
     pub page: u64,
-    /// What stands from it on.
-    pub change: Change,
+    /// The rights from it on.
+    pub rights: Rights,
 }
 
-/// A few changes in ascending order of page, each page once.
+impl Default for PageRights {
+    fn default() -> PageRights {
+        PageRights {
+            page: 0,
+            rights: Rights::NONE,
+        }
+    }
+}
+
+/// A few changes in ascending order of page, each page once. A record has one parent, so its frames
+/// mostly lie equally far off at each page: the shift is kept once.
 #[derive(Drop)]
 pub struct FewChanges {
-    list: SmallVec<PageChange, 2>,
+    /// The shift of each change that has rights.
+    shift: u64,
+    /// The rights, by page.
+    list: SmallVec<PageRights, 2>,
 }
 
 impl Model for FewChanges {
-    ghost use Rattle.std.specs.Prelude.{List};
+    ghost use Rattle.mapdb_lists.specs.FewChanges.{ListedChanges};
     ghost use Rattle.mapdb_lists.specs.PageOrder.{PagesRise};
-    ghost use Rattle.mapdb_lists.specs.declared.few_changes.PageChange.{PageChange};
 
-    ghost Value = { List PageChange };
+    ghost Value = { ListedChanges };
 
-    ghost view = { λ f. f.list.items };
+    ghost view = { λ f. record { shift = f.shift; list = f.list.items } };
 
     ghost invariant = { λ f. PagesRise f.list.items };
 }
 
 impl FewChanges {
-    ghost use Rattle.std.specs.Prelude.{◌≡◌, ◌≤◌, ◌<◌, ℕ, [], IfOk, OnOk, length};
-    ghost use Rattle.mapdb_lists.specs.Changes.{IsRewritten, IsStretch};
-    ghost use Rattle.mapdb_lists.specs.OwnChanges.{IsLastUpTo, IsNoneUntil, listed_change};
-    ghost use Rattle.mapdb_lists.specs.OwnChanges.{mapped_change};
+    ghost use Rattle.std.specs.Prelude.{◌≡◌, ◌≤◌, ◌<◌, ◌↔◌, ℕ, [], IfOk, IsTrue, OnOk};
+    ghost use Rattle.std.specs.Prelude.{length};
+    ghost use Rattle.mapdb_lists.specs.Changes.{IsRewritten, IsStretch, changed};
+    ghost use Rattle.mapdb_lists.specs.FewChanges.{ShowsChange, few_change, shift_for};
+    ghost use Rattle.mapdb_lists.specs.OwnChanges.{IsLastUpTo, IsNoneUntil, mapped_change};
 
     /// No changes. It takes no memory.
     pub(crate) fn new(alloc: Global) -> FewChanges
-        ensures { result ≡ [] }
+        ensures { result.list ≡ [] }
     {
         FewChanges {
+            shift: PAGE_LIMIT,
             list: SmallVec::new(alloc),
         }
     }
 
     /// How many changes there are.
     pub(crate) fn len(&self) -> usize
-        ensures { result ≡ length self.now }
+        ensures { result ≡ length self.now.list }
     {
         self.list.len()
     }
 
     /// The last change up to a page, and where it stands.
     pub(crate) fn last(&self, page: u64) -> Option<(u64, Change)>
-        ensures { IsLastUpTo (listed_change self.now) page result }
+        ensures { IsLastUpTo (few_change self.now) page result }
     {
-        list_last(self.list.as_slice(), page)
+        match list_last(self.list.as_slice(), page) {
+            Some((at, rights)) => Some((at, Change::with_shift(self.shift, rights))),
+            None => None,
+        }
     }
 
     /// The page of the next change behind a page: the end of the space where there is none.
@@ -70,7 +87,7 @@ impl FewChanges {
         requires { page < PAGE_LIMIT }
         ensures above { page < result }
         ensures limit { result ≤ PAGE_LIMIT }
-        ensures none { IsNoneUntil (listed_change self.now) page result }
+        ensures none { IsNoneUntil (few_change self.now) page result }
     {
         list_next(self.list.as_slice(), page)
     }
@@ -79,13 +96,50 @@ impl FewChanges {
     #[inline(always)]
     pub(crate) fn stretch(&self, first: Change, page: u64) -> Stretch
         requires { page < PAGE_LIMIT }
-        ensures { IsStretch (listed_change self.now) first page result }
+        ensures { IsStretch (few_change self.now) first page result }
     {
-        list_stretch(self.list.as_slice(), first, page)
+        let (last, end) = list_stretch(self.list.as_slice(), page);
+        let change = match last {
+            Some((_, rights)) => Change::with_shift(self.shift, rights),
+            None => first,
+        };
+        Stretch { change, end }
     }
 
-    /// Gives a change to pages over which another stood, where this stands before any change. An
-    /// error where memory ran out.
+    /// A list without changes takes over the shift of one with rights that comes.
+    #[inline(always)]
+    fn take_shift(&mut self, change: Change)
+        ensures shift { self.new.shift ≡ shift_for self.old change }
+        ensures list { self.new.list ≡ self.old.list }
+    {
+        if self.list.is_empty() && !change.rights.is_none() {
+            self.shift = change.shift;
+        }
+    }
+
+    /// Whether the list, with its shift, shows a change as it is.
+    #[inline(always)]
+    fn shows(&self, change: Change) -> bool
+        ensures { IsTrue result ↔ ShowsChange self.now.shift change }
+    {
+        change.is(Change::with_shift(self.shift, change.rights))
+    }
+
+    /// Whether the list shows a change that comes, and what stands before any change, as they are,
+    /// with one shift: its own, or that of the one that comes, where it has none yet.
+    #[inline(always)]
+    pub(crate) fn takes(&mut self, before: Change, change: Change) -> bool
+        ensures shift { self.new.shift ≡ shift_for self.old change }
+        ensures list { self.new.list ≡ self.old.list }
+        ensures shown { IsTrue result ↔ (ShowsChange self.new.shift before
+            × ShowsChange self.new.shift change) }
+    {
+        self.take_shift(change);
+        self.shows(before) && self.shows(change)
+    }
+
+    /// Gives a change to pages over which another stood, where this stands before any change, and
+    /// the list shows it and the new one as they are. An error where memory ran out.
     #[inline(always)]
     pub(crate) fn write(
         &mut self,
@@ -96,18 +150,28 @@ impl FewChanges {
         change: Change,
     ) -> Result<(), AllocError>
         requires some { first < end }
-        requires one { IsNoneUntil (listed_change self.old) first end }
-        ensures { OnOk result (IsRewritten (listed_change self.old) before first end was change
-            (listed_change self.new)) }
+        requires one { IsNoneUntil (few_change self.old) first end }
+        requires before { ShowsChange self.old.shift before }
+        requires was { was ≡ changed (few_change self.old) before first }
+        requires change { ShowsChange self.old.shift change }
+        ensures { OnOk result (IsRewritten (few_change self.old) before first end was change
+            (few_change self.new)) }
     {
-        list_write(&mut self.list, before, first, end, was, change)
+        list_write(
+            &mut self.list,
+            before.rights,
+            first,
+            end,
+            was.rights,
+            change.rights,
+        )
     }
 
     /// These changes as a map. An error where memory ran out.
     pub(crate) fn to_map(&self, alloc: Global) -> Result<BTreeMap<u64, Change>, AllocError>
         ensures { IfOk result (λ map. (page : ℕ) → mapped_change map page
-            ≡ listed_change self.now page) }
+            ≡ few_change self.now page) }
     {
-        map_of(alloc, self.list.as_slice())
+        map_of(alloc, self.shift, self.list.as_slice())
     }
 }

@@ -7,20 +7,20 @@ ghost use Rattle.std.specs.List.{insert};
 ghost use Rattle.std.specs.Option.{unwrap_or};
 ghost use Rattle.mapdb_lists.specs.Changes.{IsOneForOne, IsRewritten, MovesBack, MovesOn};
 ghost use Rattle.mapdb_lists.specs.Changes.{left_before};
-ghost use Rattle.mapdb_lists.specs.OwnChanges.{IsNoneUntil, listed_change};
+ghost use Rattle.mapdb_lists.specs.FewChanges.{listed_rights};
+ghost use Rattle.mapdb_lists.specs.OwnChanges.{IsNoneUntil};
 ghost use Rattle.mapdb_lists.specs.PageOrder.{AreInFront, IsGap, IsSpot, PagesRise, StandsAtPage};
-ghost use Rattle.mapdb_lists.specs.declared.few_changes.PageChange.{PageChange};
+ghost use Rattle.mapdb_lists.specs.declared.few_changes.PageRights.{PageRights};
 
 use crate::change_lists::index_of;
-use crate::changes::Change;
-use crate::few_changes::PageChange;
+use crate::few_changes::PageRights;
 use crate::limits::ROOM_FOR_CHANGES;
-use mapdb_fpage::PAGE_LIMIT;
+use mapdb_fpage::{PAGE_LIMIT, Rights};
 use smallvec::SmallVec;
 use std::alloc::AllocError;
 
 /// Puts a change at a place of the list.
-fn set_at(list: &mut [PageChange], index: usize, next: PageChange)
+fn set_at(list: &mut [PageRights], index: usize, next: PageRights)
     requires { index < length list.old }
     ensures { list.new ≡ slice_set list.old index next }
 {
@@ -32,9 +32,9 @@ fn set_at(list: &mut [PageChange], index: usize, next: PageChange)
 /// out, and then the same changes stand there.
 #[inline(always)]
 fn insert_at(
-    list: &mut SmallVec<PageChange, 2>,
+    list: &mut SmallVec<PageRights, 2>,
     index: usize,
-    next: PageChange,
+    next: PageRights,
 ) -> Result<(), AllocError>
     requires { index ≤ length list.old.items }
     ensures ok { OnOk result (list.new.items ≡ insert list.old.items index next) }
@@ -48,70 +48,70 @@ fn insert_at(
 }
 
 /// What stands in front of the change at an index, where this stands before any change.
-fn in_front(list: &[PageChange], index: usize, before: Change) -> Change
+fn in_front(list: &[PageRights], index: usize, before: Rights) -> Rights
     requires rise { PagesRise list.now }
     requires inside { index ≤ length list.now }
     ensures { (page : ℕ) → AreInFront list.now page index
-        → result ≡ left_before (listed_change list.now) before page }
+        → result ≡ left_before (listed_rights list.now) before page }
 {
     if index == 0 {
         return before;
     }
-    list[index - 1].change
+    list[index - 1].rights
 }
 
 /// Puts a change in place of the one that stands at its page, if it is not what stands in front of
 /// it: then none is kept. Answers how many stand at the page or in front of it.
 fn write_over(
-    list: &mut SmallVec<PageChange, 2>,
+    list: &mut SmallVec<PageRights, 2>,
     index: usize,
-    before: Change,
+    before: Rights,
     page: u64,
-    change: Change,
+    rights: Rights,
 ) -> usize
     requires rise { PagesRise list.old.items }
     requires there { StandsAtPage list.old.items page index }
     ensures rise { PagesRise list.new.items }
     ensures spot { IsSpot list.new.items page result }
-    ensures there { unwrap_or (listed_change list.new.items page)
-        (left_before (listed_change list.old.items) before page) ≡ change }
-    ensures once { change ≡ left_before (listed_change list.old.items) before page
-        → listed_change list.new.items page ≡ None }
+    ensures there { unwrap_or (listed_rights list.new.items page)
+        (left_before (listed_rights list.old.items) before page) ≡ rights }
+    ensures once { rights ≡ left_before (listed_rights list.old.items) before page
+        → listed_rights list.new.items page ≡ None }
     ensures elsewhere { (q : ℕ) → (page ≡ q → ⊥)
-        → listed_change list.new.items q ≡ listed_change list.old.items q }
+        → listed_rights list.new.items q ≡ listed_rights list.old.items q }
 {
-    if change.is(in_front(list.as_slice(), index, before)) {
+    if rights == in_front(list.as_slice(), index, before) {
         list.remove(index);
         return index;
     }
-    set_at(list.as_mut_slice(), index, PageChange { page, change });
+    set_at(list.as_mut_slice(), index, PageRights { page, rights });
     index + 1
 }
 
 /// Puts a change where none stands at its page, if it is not what stands in front of it. Answers
 /// how many stand at the page or in front of it. An error where memory ran out.
 fn write_between(
-    list: &mut SmallVec<PageChange, 2>,
+    list: &mut SmallVec<PageRights, 2>,
     index: usize,
-    before: Change,
+    before: Rights,
     page: u64,
-    change: Change,
+    rights: Rights,
 ) -> Result<usize, AllocError>
     requires rise { PagesRise list.old.items }
     requires gap { IsGap list.old.items page index }
     ensures rise { PagesRise list.new.items }
     ensures spot { IfOk result (IsSpot list.new.items page) }
-    ensures there { OnOk result (unwrap_or (listed_change list.new.items page)
-        (left_before (listed_change list.old.items) before page) ≡ change) }
-    ensures once { OnOk result (change ≡ left_before (listed_change list.old.items) before page
-        → listed_change list.new.items page ≡ None) }
+    ensures there { OnOk result (unwrap_or (listed_rights list.new.items page)
+        (left_before (listed_rights list.old.items) before page) ≡ rights) }
+    ensures once { OnOk result (rights ≡ left_before (listed_rights list.old.items) before page
+        → listed_rights list.new.items page ≡ None) }
     ensures elsewhere { OnOk result ((q : ℕ) → (page ≡ q → ⊥)
-        → listed_change list.new.items q ≡ listed_change list.old.items q) }
+        → listed_rights list.new.items q ≡ listed_rights list.old.items q) }
 {
-    if change.is(in_front(list.as_slice(), index, before)) {
+    if rights == in_front(list.as_slice(), index, before) {
         return Ok(index);
     }
-    insert_at(list, index, PageChange { page, change })?;
+    insert_at(list, index, PageRights { page, rights })?;
     Ok(index + 1)
 }
 
@@ -119,38 +119,38 @@ fn write_between(
 /// there, and answers how many stand at the page or in front of it. An error where memory ran out.
 #[inline(always)]
 fn write_first(
-    list: &mut SmallVec<PageChange, 2>,
+    list: &mut SmallVec<PageRights, 2>,
     found: Result<usize, usize>,
-    before: Change,
+    before: Rights,
     page: u64,
-    change: Change,
+    rights: Rights,
 ) -> Result<usize, AllocError>
     requires rise { PagesRise list.old.items }
     requires there { IfOk found (StandsAtPage list.old.items page) }
     requires gap { IfErr found (IsGap list.old.items page) }
     ensures rise { PagesRise list.new.items }
     ensures spot { IfOk result (IsSpot list.new.items page) }
-    ensures there { OnOk result (unwrap_or (listed_change list.new.items page)
-        (left_before (listed_change list.old.items) before page) ≡ change) }
+    ensures there { OnOk result (unwrap_or (listed_rights list.new.items page)
+        (left_before (listed_rights list.old.items) before page) ≡ rights) }
     ensures elsewhere { OnOk result ((q : ℕ) → (page ≡ q → ⊥)
-        → listed_change list.new.items q ≡ listed_change list.old.items q) }
+        → listed_rights list.new.items q ≡ listed_rights list.old.items q) }
 {
     match found {
-        Ok(index) => Ok(write_over(list, index, before, page, change)),
-        Err(index) => write_between(list, index, before, page, change),
+        Ok(index) => Ok(write_over(list, index, before, page, rights)),
+        Err(index) => write_between(list, index, before, page, rights),
     }
 }
 
 /// The change at an index, where it is one at this page.
-fn change_there(list: &[PageChange], index: usize, page: u64) -> Option<Change>
+fn change_there(list: &[PageRights], index: usize, page: u64) -> Option<Rights>
     requires { PagesRise list.now }
     ensures there { IfSome result (λ _. StandsAtPage list.now page index) }
-    ensures change { IfSome result (λ change. listed_change list.now page ≡ Some change) }
-    ensures none { IfNone result ((d : PageChange) → index < length list.now
+    ensures change { IfSome result (λ rights. listed_rights list.now page ≡ Some rights) }
+    ensures none { IfNone result ((d : PageRights) → index < length list.now
         → (get_or list.now index d).page ≡ page → ⊥) }
 {
     if index < list.len() && list[index].page == page {
-        Some(list[index].change)
+        Some(list[index].rights)
     } else {
         None
     }
@@ -161,39 +161,39 @@ fn change_there(list: &[PageChange], index: usize, page: u64) -> Option<Change>
 /// and none behind it before the end. An error where memory ran out.
 #[inline(always)]
 fn write_end(
-    list: &mut SmallVec<PageChange, 2>,
+    list: &mut SmallVec<PageRights, 2>,
     spot: usize,
     first: u64,
     end: u64,
-    was: Change,
-    change: Change,
+    was: Rights,
+    rights: Rights,
 ) -> Result<(), AllocError>
     requires rise { PagesRise list.old.items }
     requires spot { IsSpot list.old.items first spot }
     requires some { first < end }
-    requires one { IsNoneUntil (listed_change list.old.items) first end }
+    requires one { IsNoneUntil (listed_rights list.old.items) first end }
     ensures rise { PagesRise list.new.items }
     ensures there { OnOk result (end < PAGE_LIMIT
-        → unwrap_or (listed_change list.new.items end) change
-        ≡ unwrap_or (listed_change list.old.items end) was) }
+        → unwrap_or (listed_rights list.new.items end) rights
+        ≡ unwrap_or (listed_rights list.old.items end) was) }
     ensures once { OnOk result (end < PAGE_LIMIT
-        → listed_change list.old.items end ≡ Some change
-        → listed_change list.new.items end ≡ None) }
+        → listed_rights list.old.items end ≡ Some rights
+        → listed_rights list.new.items end ≡ None) }
     ensures elsewhere { OnOk result ((q : ℕ) → (end ≡ q → ⊥)
-        → listed_change list.new.items q ≡ listed_change list.old.items q) }
+        → listed_rights list.new.items q ≡ listed_rights list.old.items q) }
 {
     if end >= PAGE_LIMIT {
         return Ok(());
     }
     match change_there(list.as_slice(), spot, end) {
-        Some(next) if next.is(change) => {
+        Some(next) if next == rights => {
             list.remove(spot);
         }
         Some(_) => {}
         None => {
-            let follows = PageChange {
+            let follows = PageRights {
                 page: end,
-                change: was,
+                rights: was,
             };
             insert_at(list, spot, follows)?;
         }
@@ -204,29 +204,29 @@ fn write_end(
 /// Whether the change at the first of pages goes, since they get what stands in front of them, and
 /// one comes at their end, where none stands.
 #[inline(always)]
-fn moves_on(list: &[PageChange], index: usize, before: Change, end: u64, change: Change) -> bool
+fn moves_on(list: &[PageRights], index: usize, before: Rights, end: u64, rights: Rights) -> bool
     requires rise { PagesRise list.now }
     requires inside { index < length list.now }
     ensures { (first : ℕ) → StandsAtPage list.now first index → first < end
-        → IsNoneUntil (listed_change list.now) first end
-        → IsTrue result ↔ MovesOn (listed_change list.now) before first end change }
+        → IsNoneUntil (listed_rights list.now) first end
+        → IsTrue result ↔ MovesOn (listed_rights list.now) before first end rights }
 {
-    change.is(in_front(list, index, before)) && change_there(list, index + 1, end).is_none()
+    rights == in_front(list, index, before) && change_there(list, index + 1, end).is_none()
 }
 
 /// Whether the change at the end of pages goes, since they get the same, and one comes at the first
 /// of them, where none stands.
 #[inline(always)]
-fn moves_back(list: &[PageChange], index: usize, before: Change, end: u64, change: Change) -> bool
+fn moves_back(list: &[PageRights], index: usize, before: Rights, end: u64, rights: Rights) -> bool
     requires rise { PagesRise list.now }
     requires inside { index ≤ length list.now }
     ensures there { IsTrue result → StandsAtPage list.now end index }
     ensures back { (first : ℕ) → IsGap list.now first index → first < end
-        → IsNoneUntil (listed_change list.now) first end
-        → IsTrue result ↔ MovesBack (listed_change list.now) before first end change }
+        → IsNoneUntil (listed_rights list.now) first end
+        → IsTrue result ↔ MovesBack (listed_rights list.now) before first end rights }
 {
     match change_there(list, index, end) {
-        Some(next) => next.is(change) && !change.is(in_front(list, index, before)),
+        Some(next) => next == rights && rights != in_front(list, index, before),
         None => false,
     }
 }
@@ -235,24 +235,24 @@ fn moves_back(list: &[PageChange], index: usize, before: Change, end: u64, chang
 /// Answers whether that was so; if not, nothing has changed.
 #[inline(always)]
 fn move_one(
-    list: &mut SmallVec<PageChange, 2>,
+    list: &mut SmallVec<PageRights, 2>,
     found: Result<usize, usize>,
-    before: Change,
+    before: Rights,
     first: u64,
     end: u64,
-    was: Change,
-    change: Change,
+    was: Rights,
+    rights: Rights,
 ) -> bool
     requires rise { PagesRise list.old.items }
     requires there { IfOk found (StandsAtPage list.old.items first) }
     requires gap { IfErr found (IsGap list.old.items first) }
     requires some { first < end }
-    requires one { IsNoneUntil (listed_change list.old.items) first end }
+    requires one { IsNoneUntil (listed_rights list.old.items) first end }
     ensures when { IsTrue result
-        ↔ IsOneForOne (listed_change list.old.items) before first end change }
+        ↔ IsOneForOne (listed_rights list.old.items) before first end rights }
     ensures rise { PagesRise list.new.items }
-    ensures moved { result ≡ true → IsRewritten (listed_change list.old.items) before first end was
-        change (listed_change list.new.items) }
+    ensures moved { result ≡ true → IsRewritten (listed_rights list.old.items) before first end was
+        rights (listed_rights list.new.items) }
     ensures kept { result ≡ false → list.new.items ≡ list.old.items }
 {
     if end >= PAGE_LIMIT {
@@ -260,17 +260,17 @@ fn move_one(
     }
     let changes = list.as_slice();
     let (index, next) = match found {
-        Ok(index) if moves_on(changes, index, before, end, change) => {
-            let next = PageChange {
+        Ok(index) if moves_on(changes, index, before, end, rights) => {
+            let next = PageRights {
                 page: end,
-                change: was,
+                rights: was,
             };
             (index, next)
         }
-        Err(index) if moves_back(changes, index, before, end, change) => {
-            let next = PageChange {
+        Err(index) if moves_back(changes, index, before, end, rights) => {
+            let next = PageRights {
                 page: first,
-                change,
+                rights,
             };
             (index, next)
         }
@@ -284,24 +284,24 @@ fn move_one(
 /// where memory ran out.
 #[inline(always)]
 pub(crate) fn list_write(
-    list: &mut SmallVec<PageChange, 2>,
-    before: Change,
+    list: &mut SmallVec<PageRights, 2>,
+    before: Rights,
     first: u64,
     end: u64,
-    was: Change,
-    change: Change,
+    was: Rights,
+    rights: Rights,
 ) -> Result<(), AllocError>
     requires rise { PagesRise list.old.items }
     requires some { first < end }
-    requires one { IsNoneUntil (listed_change list.old.items) first end }
+    requires one { IsNoneUntil (listed_rights list.old.items) first end }
     ensures rise { PagesRise list.new.items }
-    ensures written { OnOk result (IsRewritten (listed_change list.old.items) before first end was
-        change (listed_change list.new.items)) }
+    ensures written { OnOk result (IsRewritten (listed_rights list.old.items) before first end was
+        rights (listed_rights list.new.items)) }
 {
     let found = index_of(list.as_slice(), first);
-    if move_one(list, found, before, first, end, was, change) {
+    if move_one(list, found, before, first, end, was, rights) {
         return Ok(());
     }
-    let spot = write_first(list, found, before, first, change)?;
-    write_end(list, spot, first, end, was, change)
+    let spot = write_first(list, found, before, first, rights)?;
+    write_end(list, spot, first, end, was, rights)
 }

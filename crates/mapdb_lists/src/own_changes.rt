@@ -1,8 +1,9 @@
 //! The changes of one record: a few in a list, many in a map.
 
-ghost use Rattle.std.specs.Prelude.{◌≡◌, ◌≤◌, ◌<◌, ℕ, None, IfOk, IfSome, OnOk};
-ghost use Rattle.mapdb_lists.specs.Changes.{IsRewritten, IsStretch};
-ghost use Rattle.mapdb_lists.specs.OwnChanges.{IsLastUpTo, IsNoneUntil, own_change};
+ghost use Rattle.std.specs.Prelude.{◌≡◌, ◌≤◌, ◌<◌, ℕ, None, IsTrue, OnOk};
+ghost use Rattle.mapdb_lists.specs.Changes.{IsRewritten, IsStretch, changed};
+ghost use Rattle.mapdb_lists.specs.OwnChanges.{CanKeep, IsLastUpTo, IsNoneUntil, own_change};
+ghost use Rattle.mapdb_lists.specs.declared.changes.Change.{Change};
 
 use crate::changes::{Change, Stretch};
 use crate::few_changes::FewChanges;
@@ -64,20 +65,18 @@ impl OwnChanges {
         }
     }
 
-    /// The same changes as a map, where they are too many for a list. An error where memory ran
-    /// out.
-    fn outgrown(&self, alloc: Global) -> Result<Option<BTreeMap<u64, Change>>, AllocError>
-        ensures { IfOk result (λ grown. IfSome grown
-            (λ map. (page : ℕ) → own_change (OwnChanges.Many map) page
-            ≡ own_change self.now page)) }
+    /// Goes over to a map, which can keep each change. An error where memory ran out.
+    fn go_over(&mut self, alloc: Global) -> Result<(), AllocError>
+        ensures same { OnOk result ((page : ℕ)
+            → own_change self.new page ≡ own_change self.old page) }
+        ensures each { OnOk result ((change : Change) → CanKeep self.new change) }
     {
-        match self {
-            OwnChanges::Few(few) if few.len() >= FEW_CHANGES => {
-                let map = few.to_map(alloc)?;
-                Ok(Some(map))
-            }
-            _ => Ok(None),
-        }
+        let map = match self {
+            OwnChanges::Few(few) => few.to_map(alloc)?,
+            OwnChanges::Many(_) => return Ok(()),
+        };
+        *self = OwnChanges::Many(map);
+        Ok(())
     }
 
     /// Goes over to a map where there are too many changes for a list. An error where memory ran
@@ -86,14 +85,43 @@ impl OwnChanges {
     fn widen(&mut self, alloc: Global) -> Result<(), AllocError>
         ensures { OnOk result ((page : ℕ) → own_change self.new page ≡ own_change self.old page) }
     {
-        if let Some(map) = self.outgrown(alloc)? {
-            *self = OwnChanges::Many(map);
+        match self {
+            OwnChanges::Few(few) if few.len() >= FEW_CHANGES => self.go_over(alloc),
+            _ => Ok(()),
         }
-        Ok(())
     }
 
-    /// Gives a change to pages over which another stood, where the changes are kept now, and this
-    /// stands before any change. An error where memory ran out.
+    /// Whether a change that comes, and what stands before any change, can be kept where the
+    /// changes are now.
+    #[inline(always)]
+    fn takes(&mut self, before: Change, change: Change) -> bool
+        ensures same { (page : ℕ) → own_change self.new page ≡ own_change self.old page }
+        ensures before { IsTrue result → CanKeep self.new before }
+        ensures change { IsTrue result → CanKeep self.new change }
+    {
+        match self {
+            OwnChanges::Few(few) => few.takes(before, change),
+            OwnChanges::Many(_) => true,
+        }
+    }
+
+    /// Goes over to a map where a list cannot keep a change that comes, and what stands before any
+    /// change. An error where memory ran out.
+    #[inline(always)]
+    fn fit(&mut self, alloc: Global, before: Change, change: Change) -> Result<(), AllocError>
+        ensures same { OnOk result ((page : ℕ)
+            → own_change self.new page ≡ own_change self.old page) }
+        ensures before { OnOk result (CanKeep self.new before) }
+        ensures change { OnOk result (CanKeep self.new change) }
+    {
+        if self.takes(before, change) {
+            return Ok(());
+        }
+        self.go_over(alloc)
+    }
+
+    /// Gives a change to pages over which another stood, where this stands before any change, and
+    /// it and the new one can be kept where the changes are now. An error where memory ran out.
     #[inline(always)]
     fn write_there(
         &mut self,
@@ -105,6 +133,9 @@ impl OwnChanges {
     ) -> Result<(), AllocError>
         requires some { first < end }
         requires one { IsNoneUntil (own_change self.old) first end }
+        requires before { CanKeep self.old before }
+        requires was { was ≡ changed (own_change self.old) before first }
+        requires change { CanKeep self.old change }
         ensures { OnOk result (IsRewritten (own_change self.old) before first end was change
             (own_change self.new)) }
     {
@@ -128,9 +159,11 @@ impl OwnChanges {
     ) -> Result<(), AllocError>
         requires some { first < end }
         requires one { IsNoneUntil (own_change self.old) first end }
+        requires was { was ≡ changed (own_change self.old) before first }
         ensures { OnOk result (IsRewritten (own_change self.old) before first end was change
             (own_change self.new)) }
     {
+        self.fit(alloc, before, change)?;
         self.write_there(before, first, end, was, change)?;
         self.widen(alloc)
     }

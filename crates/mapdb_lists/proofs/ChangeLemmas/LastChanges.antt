@@ -8,14 +8,14 @@ use Rattle.mapdb_lists.specs.Changes.{IsRewritten, IsStretch, changed, left_befo
 use Rattle.mapdb_lists.specs.OwnChanges.{IsLastChange, IsNoneUntil}
 
 -- none up to the page: what stood first
-pub changed-none : (f : ℕ → Option Change) (first : Change) (page : ℕ) → ((q : ℕ) → q ≤ page → f q ≡ None) → changed f first page ≡ first
+pub changed-none : {V : Type 0} (f : ℕ → Option V) (first : V) (page : ℕ) → ((q : ℕ) → q ≤ page → f q ≡ None) → changed f first page ≡ first
 unfolding changed
 changed-none f first zero none = ap (λ o. unwrap_or o first) (none zero (omega arith))
 changed-none f first (suc page) none =
     ap (λ o. unwrap_or o (changed f first page)) (none (suc page) (omega arith)) ∙ changed-none f first page (λ q up_to. none q (omega arith))
 
 -- from a page on where the same stands, with the same changes behind it, the same stands
-pub changed-from : (f g : ℕ → Option Change) (first other : Change) (start page : ℕ) → start ≤ page → changed f first start ≡ changed g other start
+pub changed-from : {V : Type 0} (f g : ℕ → Option V) (first other : V) (start page : ℕ) → start ≤ page → changed f first start ≡ changed g other start
     → ((q : ℕ) → start < q → q ≤ page → f q ≡ g q) → changed f first page ≡ changed g other page
 unfolding changed
 changed-from f g first other start zero below here same = ap (changed f first) (zero_is start below) ∙ here ∙ ap (changed g other) (sym (zero_is start below))
@@ -34,13 +34,13 @@ changed-from f g first other start (suc page) below here same =
     at_or_before start page below = grind arith
 
 -- at a change, what it leaves
-pub changed-here : (f : ℕ → Option Change) (first rights : Change) (page : ℕ) → f page ≡ Some rights → changed f first page ≡ rights
+pub changed-here : {V : Type 0} (f : ℕ → Option V) (first change : V) (page : ℕ) → f page ≡ Some change → changed f first page ≡ change
 unfolding changed
-changed-here f first rights zero here = ap (λ o. unwrap_or o first) here
-changed-here f first rights (suc page) here = ap (λ o. unwrap_or o (changed f first page)) here
+changed-here f first change zero here = ap (λ o. unwrap_or o first) here
+changed-here f first change (suc page) here = ap (λ o. unwrap_or o (changed f first page)) here
 
 -- with no change behind a page, what stands there
-pub changed-stays : (f : ℕ → Option Change) (first : Change) (start page : ℕ) → start ≤ page → ((q : ℕ) → start < q → q ≤ page → f q ≡ None) → changed f first page ≡ changed f first start
+pub changed-stays : {V : Type 0} (f : ℕ → Option V) (first : V) (start page : ℕ) → start ≤ page → ((q : ℕ) → start < q → q ≤ page → f q ≡ None) → changed f first page ≡ changed f first start
 unfolding changed
 changed-stays f first start zero below none = ap (changed f first) (zero_is start below)
   where
@@ -58,18 +58,18 @@ changed-stays f first start (suc page) below none =
     at_or_before start page below = grind arith
 
 -- the same changes up to a page leave the same
-pub changed-same : (f g : ℕ → Option Change) (first : Change) (page : ℕ) → ((q : ℕ) → q ≤ page → f q ≡ g q) → changed f first page ≡ changed g first page
+pub changed-same : {V : Type 0} (f g : ℕ → Option V) (first : V) (page : ℕ) → ((q : ℕ) → q ≤ page → f q ≡ g q) → changed f first page ≡ changed g first page
 unfolding changed
 changed-same f g first zero same = ap (λ o. unwrap_or o first) (same zero (omega arith))
 changed-same f g first (suc page) same =
     λ i. unwrap_or (same (suc page) (omega arith) i) (changed-same f g first page (λ q up_to. same q (omega arith)) i)
 
 -- the last change up to a page is what is left there
-pub last_left : (f : ℕ → Option Change) (first : Change) (page : ℕ) (last : ℕ × Change) → IsLastChange f page last → changed f first page ≡ last.1
+pub last_left : {V : Type 0} (f : ℕ → Option V) (first : V) (page : ℕ) (last : ℕ × V) → IsLastChange f page last → changed f first page ≡ last.1
 last_left f first page last found = changed-stays f first last.0 page found.up_to found.last ∙ changed-here f first last.1 last.0 found.here
 
 -- in front of a page stands what is left at the page before it
-pub left_behind : (f : ℕ → Option Change) (first : Change) (page : ℕ) → 0 < page → changed f first (page - 1) ≡ left_before f first page
+pub left_behind : {V : Type 0} (f : ℕ → Option V) (first : V) (page : ℕ) → 0 < page → changed f first (page - 1) ≡ left_before f first page
 left_behind f first zero some = let no : ⊥ = omega arith in absurd no
 left_behind f first (suc page) some = ap (changed f first) (omega arith)
 
@@ -88,12 +88,12 @@ pub stretch_first : (f : ℕ → Option Change) (first : Change) (page end : ℕ
 stretch_first f first page end found above limit none = record { seen = sym (changed-none f first page found); above = above; limit = limit; none = none }
 
 -- the same changes in front of a page leave the same there
-pub left_same : (f g : ℕ → Option Change) (first : Change) (page : ℕ) → ((q : ℕ) → q < page → f q ≡ g q) → left_before f first page ≡ left_before g first page
+pub left_same : {V : Type 0} (f g : ℕ → Option V) (first : V) (page : ℕ) → ((q : ℕ) → q < page → f q ≡ g q) → left_before f first page ≡ left_before g first page
 left_same f g first zero same = refl
 left_same f g first (suc page) same = changed-same f g first page (λ q up_to. same q (omega arith))
 
 -- Pages over which one change stood were given another.
-module _ (f g : ℕ → Option Change) (before : Change) (first end : ℕ) (was change : Change) (given : IsRewritten f before first end was change g)
+module _ {V : Type 0} (f g : ℕ → Option V) (before : V) (first end : ℕ) (was change : V) (given : IsRewritten f before first end was change g)
     (some : first < end) (none : (q : ℕ) → first < q → q < end → f q ≡ None) (known : was ≡ changed f before first) where
   pub given_before : (page : ℕ) → page < first → changed g before page ≡ changed f before page
   given_before page below = changed-same g f before page (λ q up_to. given.elsewhere q (λ e. let no : ⊥ = omega arith in no) (λ e. let no : ⊥ = omega arith in no))

@@ -2,7 +2,6 @@
 
 ghost use Rattle.std.specs.Prelude.{◌≡◌, ◌≤◌, ◌<◌, ℕ, Some, false, true};
 ghost use Rattle.mapdb_fpage.specs.Place.{holds};
-ghost use Rattle.mapdb_fpage.specs.RightSets.{is_empty};
 ghost use Rattle.mapdb_facts.specs.Adding.{cut_at};
 ghost use Rattle.mapdb_facts.specs.Facts.{state_of_facts};
 ghost use Rattle.mapdb_facts.specs.Names.{is_root};
@@ -60,18 +59,6 @@ fn root_given(facts: &Facts, id: RecordId, page: u64) -> Stretch
     Stretch { change, end }
 }
 
-/// These rights, with frames so far off: where there are none, nothing is said of frames, and what
-/// is cached is as it was before any change.
-#[inline(always)]
-fn change_of(rights: Rights, shift: u64) -> Change
-    ensures rights { result.rights ≡ rights }
-    ensures shift { is_empty rights ≡ false → result.shift ≡ shift }
-    ensures none { is_empty rights ≡ true → result.shift ≡ PAGE_LIMIT }
-{
-    let shift = if rights.is_none() { PAGE_LIMIT } else { shift };
-    Change { rights, shift }
-}
-
 /// What a record whose space lives has from a page of its place on, by what is cached of its
 /// parent.
 #[inline(always)]
@@ -90,7 +77,7 @@ fn child_given(changes: &AllChanges, facts: &Facts, mapping: &Record, page: u64)
     let (taken, taken_end) = taken_at(facts, mapping.id, page);
     let rights = mapping.rights.meet(up.change.rights).without(taken);
     let shift = up.change.shift.saturating_add(source).saturating_sub(page);
-    let change = change_of(rights, shift);
+    let change = Change::with_shift(shift, rights);
     let place_end = mapping.place.change_after(page);
     let end = place_end.min(taken_end).min(page + (up.end - source));
     Stretch { change, end }

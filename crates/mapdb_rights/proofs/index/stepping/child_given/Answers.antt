@@ -1,4 +1,5 @@
 use Rattle.std.proofs.Common.{◌≡◌, ◌≤◌, ◌<◌, ap, sym, ◌∙◌, arith}
+use Rattle.std.proofs.lemmas.Bool.{cond-false}
 use Rattle.mapdb_facts.specs.Facts.{state_of_facts}
 use Rattle.mapdb_fpage.specs.Bounds.{page_limit}
 use Rattle.mapdb_fpage.specs.RightSets.{is_empty, without}
@@ -31,6 +32,9 @@ returns c =
           (λ q from before. taken.ensures.same q from (omega arith))
           (λ q from before. stretch_seen changes r.parent c.source_of-source.result up.result up.ensures (source_page r q) (omega (arith, at, range)) (omega (arith, at, range)))
           range.0
-          (c.change_of-change.ensures.rights ∙ c.without-rights.ensures ∙ ap (λ rights. without rights taken.result.0) c.meet.ensures)
-          (λ some small. let is = c.change_of-change.ensures.shift (ap is_empty (sym c.change_of-change.ensures.rights) ∙ some) in omega (arith, is, at, small));
+          (ap (λ change. change.rights) c.with_shift-change.ensures ∙ c.without-rights.ensures ∙ ap (λ rights. without rights taken.result.0) c.meet.ensures)
+          (λ some small.
+          let is = ap (λ change. change.shift) c.with_shift-change.ensures
+          ∙ cond-false (is_empty c.without-rights.result) page_limit c.saturating_sub-shift.result (ap (λ change. is_empty change.rights) (sym c.with_shift-change.ensures) ∙ some) in
+          omega (arith, is, at, small));
     }
