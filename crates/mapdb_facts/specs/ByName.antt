@@ -10,12 +10,12 @@ use Rattle.mapdb_facts.specs.declared.name_places.NamePlaces.{NamePlaces}
 use Rattle.mapdb_facts.specs.declared.names.RecordId.{RecordId}
 
 -- a name with its value, where it has one, in front of the rest
-abbrev pub with_value : {V : Type 0} → RecordId → Option V → List (RecordId × V) → List (RecordId × V)
+abbrev pub with_value : {K V : Type 0} → K → Option V → List (K × V) → List (K × V)
 with_value id None rest = rest
 with_value id (Some value) rest = (id, value) ∷ rest
 
 -- names with their values, without those that have none
-abbrev pub with_values : {V : Type 0} → (RecordId → Option V) → List RecordId → List (RecordId × V)
+abbrev pub with_values : {K V : Type 0} → (K → Option V) → List K → List (K × V)
 with_values value [] = []
 with_values value (id ∷ ids) = with_value id (value id) (with_values value ids)
 
@@ -48,10 +48,13 @@ abbrev pub by_places : {V : Type 0} → NamePlaces → List V → NamedValues V
 by_places places values = record { entries = with_values (value_in places values) (known_names places) }
 
 -- each place is below the count, and is one name's alone
+pub record IsOneToOne {K : Type 0} (place : K → Option ℕ) (count : ℕ) : Type 0 where
+  pub below : (id : K) (at : ℕ) → place id ≡ Some at → at < count
+  pub apart : (a b : K) (at : ℕ) → place a ≡ Some at → place b ≡ Some at → a ≡ b
+
+-- the names' places are so, in few lists
 pub record ArePlacesBelow (places : NamePlaces) (count : ℕ) : Type 0 where
-  pub below : (id : RecordId) (at : ℕ) → place_in places id ≡ Some at → at < count
-  pub apart : (a b : RecordId) (at : ℕ) → place_in places a ≡ Some at → place_in places b ≡ Some at
-      → a ≡ b
+  pub each : IsOneToOne (place_in places) count
   pub few : HaveFewLists places.near.items
 
 -- each name has the value that it had

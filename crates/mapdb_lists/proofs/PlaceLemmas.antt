@@ -5,5 +5,6 @@ pub mod OwnersPlaces
 pub mod ByOwners
 pub mod PlaceLists
 pub mod PlaceOrder
+pub mod SpacePlaces
 pub mod OwnSweeps
 pub mod LessPlaces

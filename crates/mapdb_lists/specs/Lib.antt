@@ -7,3 +7,4 @@ pub mod PageOrder
 pub mod OwnChanges
 pub mod Changes
 pub mod FewChanges
+pub mod BySpace

@@ -16,6 +16,7 @@
 //! ```
 #![tactic(auto)]
 
+mod by_space;
 mod change_lists;
 mod changes;
 mod few_changes;
@@ -32,6 +33,7 @@ mod place_lists;
 mod place_sets;
 mod places;
 mod sorted_places;
+mod space_places;
 
 pub use changes::{
     AllChanges, Change, Stretch, cached_at, seen_at, stretch_at, unchanged_until, write,

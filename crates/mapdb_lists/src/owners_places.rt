@@ -1,4 +1,4 @@
-//! The places of owners: those of records by name, and those of spaces by a hash.
+//! The places of owners: those of records by name, and those of spaces by number.
 
 ghost use Rattle.std.specs.Prelude.{◌≡◌, [], OnOk};
 ghost use Rattle.std.specs.Map.{lookup};
@@ -10,18 +10,18 @@ ghost use Rattle.mapdb_lists.specs.Listing.{IsPut, IsRemoved};
 ghost use Rattle.mapdb_lists.specs.Owners.{same_owner};
 ghost use Rattle.mapdb_lists.specs.declared.places.Owner.{Owner};
 
+use crate::by_space::BySpace;
 use crate::own_places::{OwnPlace, OwnPlaces};
 use crate::places::Owner;
 use mapdb_facts::{ByName, RecordId, Space};
 use std::alloc::{AllocError, Global};
-use std::collections::HashMap;
 use std::marker::Model;
 
 /// The places of owners, each owner's by themselves: there are many records, and few spaces.
 #[derive(Drop)]
 pub struct OwnersPlaces {
     records: ByName<OwnPlaces>,
-    spaces: HashMap<Space, OwnPlaces>,
+    spaces: BySpace<OwnPlaces>,
     alloc: Global,
 }
 
@@ -53,7 +53,7 @@ fn put_for_record(
 
 /// Puts a place among those of a space. An error where memory ran out.
 fn put_for_space(
-    spaces: &mut HashMap<Space, OwnPlaces>,
+    spaces: &mut BySpace<OwnPlaces>,
     alloc: Global,
     space: Space,
     place: OwnPlace,
@@ -61,13 +61,12 @@ fn put_for_space(
     ensures { OnOk result (IsPut Space same_space spaces.old.entries spaces.new.entries space
         place) }
 {
-    if let Some(own) = spaces.get_mut(&space) {
-        return own.insert(alloc, place);
+    if let Some(at) = spaces.places.get(space) {
+        return spaces.values[at].insert(alloc, place);
     }
     let mut own = OwnPlaces::new(alloc);
     own.insert(alloc, place)?;
-    spaces.insert(space, own)?;
-    Ok(())
+    spaces.insert(space, own)
 }
 
 /// Takes a place out of those of a record, where it has places. It takes no memory.
@@ -80,16 +79,11 @@ fn remove_for_record(records: &mut ByName<OwnPlaces>, alloc: Global, id: RecordI
 }
 
 /// Takes a place out of those of a space, where it has places. It takes no memory.
-fn remove_for_space(
-    spaces: &mut HashMap<Space, OwnPlaces>,
-    alloc: Global,
-    space: Space,
-    place: OwnPlace,
-)
+fn remove_for_space(spaces: &mut BySpace<OwnPlaces>, alloc: Global, space: Space, place: OwnPlace)
     ensures { IsRemoved Space same_space spaces.old.entries spaces.new.entries space place }
 {
-    if let Some(own) = spaces.get_mut(&space) {
-        own.remove(alloc, place);
+    if let Some(at) = spaces.places.get(space) {
+        spaces.values[at].remove(alloc, place);
     }
 }
 
@@ -100,7 +94,7 @@ impl OwnersPlaces {
     {
         OwnersPlaces {
             records: ByName::new(alloc),
-            spaces: HashMap::new(alloc),
+            spaces: BySpace::new(alloc),
             alloc,
         }
     }
@@ -112,7 +106,7 @@ impl OwnersPlaces {
     {
         match owner {
             Owner::Record(id) => self.records.get(id),
-            Owner::Space(space) => self.spaces.get(&space),
+            Owner::Space(space) => self.spaces.get(space),
         }
     }
 

@@ -1,37 +1,52 @@
-use Rattle.std.proofs.Common.{◌≡◌, cond, rules, sym, ap, ◌∙◌}
+use Rattle.std.proofs.Common.{◌≡◌, ◌<◌, arith, cond, length, refl, sym, ap, ◌∙◌}
 use Rattle.std.specs.Prelude.{◌||◌, List, Option, None, Some}
 use Rattle.std.specs.BTreeMap.{is_at}
 use Rattle.std.specs.Map.{lookup}
-use Rattle.std.specs.Option.{option_copied_mut}
+use Rattle.std.proofs.lemmas.Option.{slice_get_read}
 use Rattle.mapdb_facts.specs.Names.{same_space}
-use Rattle.mapdb_facts.specs.declared.names.Space.{Space}
 use Rattle.mapdb_lists.specs.declared.own_places.OwnPlace.{OwnPlace}
 use Rattle.mapdb_lists.specs.declared.own_places.OwnPlaces.{OwnPlaces}
 use Rattle.mapdb_lists.specs.Listing.{places_in}
 use Rattle.mapdb_lists.specs.OwnPlaces.{place_cmp, stands}
 use Rattle.std.proofs.lemmas.Result.{on_ok_weaker}
+use Rattle.mapdb_lists.proofs.PlaceLemmas.SpacePlaces.{no_space_found, place_below, placed_value, value_given}
 use Rattle.mapdb_lists.proofs.owners_places.put_for_space.Goals as goal
+
+pub index_mut-requires : goal.index_mut-requires
+index_mut-requires c = omega (arith, place_below c.spaces.inside.places c.spaces.inside.values.items c.spaces.invariant c.args.space c.in-Some.at (sym c.in-Some.ensures), c.spaces.inside.values.ok.0)
 
 pub returns-in-Some : goal.returns-in-Some
 returns-in-Some c =
-    let found : Some c.in-Some.own.now ≡ lookup (same_space c.args.space) c.args.spaces.now.entries = sym (ap option_copied_mut c.in-Some.is) ∙ c.get_mut.ensures.value in
+    let within : c.in-Some.at < length c.spaces.inside.values.items = place_below c.spaces.inside.places c.spaces.inside.values.items c.spaces.invariant c.args.space c.in-Some.at (sym c.in-Some.ensures) in
+    let found : Some c.index_mut.result.now ≡ lookup (same_space c.args.space) c.args.spaces.now.entries =
+    sym (slice_get_read c.spaces.inside.values.items _ c.in-Some.at c.index_mut.result.now refl within c.index_mut.ensures.value)
+    ∙ placed_value c.spaces.inside.places c.spaces.inside.values.items c.spaces.invariant c.args.space c.in-Some.at (sym c.in-Some.ensures)
+    ∙ ap (λ table. lookup (same_space c.args.space) table.entries) c.spaces.view_is in
     on_ok_weaker c.insert.result
     (λ put. record {
       own = c.insert.new.self;
-      given = ((c.get_mut.follows.holds c.insert.new.self).3 (search rules)).0;
+      given = λ q. value_given c.spaces.inside.places c.spaces.inside.values.items c.spaces.invariant c.args.space c.in-Some.at (sym c.in-Some.ensures) c.insert.new.self q
+          ∙ ap (λ table. cond (same_space c.args.space q) (Some c.insert.new.self) (lookup (same_space q) table.entries)) c.spaces.view_is;
       put = λ k. put k ∙ ap (λ (o : Option OwnPlaces). is_at (place_cmp c.args.place) k || stands (places_in o) k) found;
     })
     c.insert.ensures
 
 pub returns : goal.returns
 returns c =
-    let same : c.get_mut.follows.lender-at-none.entries ≡ c.args.spaces.now.entries = λ i. (c.get_mut.follows.holds-at-none i).entries in
-    let found : None ≡ lookup (same_space c.args.space) c.args.spaces.now.entries = sym (ap option_copied_mut c.in_default.is) ∙ c.get_mut.ensures.value in
-    record {
+    let found : None ≡ lookup (same_space c.args.space) c.args.spaces.now.entries =
+    no_space_found c.spaces.inside.places c.spaces.inside.values.items c.args.space (sym c.get.ensures ∙ c.in_default.is)
+    ∙ ap (λ table. lookup (same_space c.args.space) table.entries) c.spaces.view_is in
+    on_ok_weaker c.insert-3.result
+    (λ given. record {
       own = c.insert-2.new.self;
-      given = λ q. c.in_ok-insert-2.ensures.updates.0 q
-          ∙ ap (λ (es : List (Space × OwnPlaces)). cond (same_space c.args.space q) (Some c.insert-2.new.self) (lookup (same_space q) es)) same;
+      given = given;
       put = λ k. c.in_ok-insert.ensures k
           ∙ ap (λ (l : List OwnPlace). is_at (place_cmp c.args.place) k || stands l k) c.new-own.ensures
           ∙ ap (λ (o : Option OwnPlaces). is_at (place_cmp c.args.place) k || stands (places_in o) k) found;
-    }
+    })
+    c.insert-3.ensures
+
+pub insert-requires-3 : goal.insert-requires-3
+insert-requires-3 c =
+    sym (no_space_found c.spaces.inside.places c.spaces.inside.values.items c.args.space (sym c.get.ensures ∙ c.in_default.is)
+    ∙ ap (λ table. lookup (same_space c.args.space) table.entries) c.spaces.view_is)

@@ -12,6 +12,6 @@ returns-in-Record c =
 
 pub returns-in-Space : goal.returns-in-Space
 returns-in-Space c =
-    c.get-in-Space.ensures.value
+    c.get-in-Space.ensures
     ∙ sym (space_found c.self.inside.records.entries c.self.inside.spaces.entries c.in-Space.space)
     ∙ (λ i. lookup (same_owner (sym c.in-Space.is i)) (c.self.view_is i).entries)
