@@ -28,7 +28,8 @@ worded processor number (word ∷ words) =
 -- the names of all processors from one on for which there are words
 abbrev pub near_names : ℕ → List (Vec ℕ) → List RecordId
 near_names processor [] = []
-near_names processor (words ∷ near) = worded processor 0 words.items ++ near_names (suc processor) near
+near_names processor (words ∷ near) =
+    worded processor 0 words.items ++ near_names (suc processor) near
 
 -- all names that may have a place: those for which there are words, and the far ones
 abbrev pub known_names : NamePlaces → List RecordId
@@ -45,7 +46,9 @@ value_in places values id = value_at values (place_in places id)
 
 -- the names that have values, with them
 abbrev pub by_places : {V : Type 0} → NamePlaces → List V → NamedValues V
-by_places places values = record { entries = with_values (value_in places values) (known_names places) }
+by_places places values = record {
+  entries = with_values (value_in places values) (known_names places);
+}
 
 -- each place is below the count, and is one name's alone
 pub record IsOneToOne {K : Type 0} (place : K → Option ℕ) (count : ℕ) : Type 0 where
@@ -59,4 +62,5 @@ pub record ArePlacesBelow (places : NamePlaces) (count : ℕ) : Type 0 where
 
 -- each name has the value that it had
 abbrev pub HasSameValues : {V : Type 0} → NamedValues V → NamedValues V → Type 0
-HasSameValues old new = (id : RecordId) → lookup (same_id id) new.entries ≡ lookup (same_id id) old.entries
+HasSameValues old new = (id : RecordId)
+    → lookup (same_id id) new.entries ≡ lookup (same_id id) old.entries

@@ -21,7 +21,8 @@ by_own_name records = named (map (λ r. r.id) records) records
 
 -- each record is found by its name
 abbrev pub AreFoundByName : List Record → Type 0
-AreFoundByName records = All (λ r. lookup (same_id r.id) (by_own_name records).entries ≡ Some r) records
+AreFoundByName records =
+    All (λ r. lookup (same_id r.id) (by_own_name records).entries ≡ Some r) records
 
 -- the place of a name among those that came, where it is one of them
 abbrev pub place_of : RecordId → List RecordId → Option ℕ

@@ -11,8 +11,8 @@ use crate::names::RecordId;
 use std::alloc::{AllocError, Global};
 use std::marker::Model;
 
-/// Values by the name of a record, in the order in which the names came: they are listed, so that
-/// a walk over them looks none up.
+/// Values by the name of a record, in the order in which the names came: they are listed, for what
+/// goes over all of them.
 #[derive(Drop)]
 pub(crate) struct ListedByName<V> {
     /// The names, each once.

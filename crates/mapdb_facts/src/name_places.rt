@@ -1,8 +1,8 @@
 //! Where names of records stand in a list of them: near ones by their number, far ones in a map.
 //! Both are met in the order of names.
 
-ghost use Rattle.std.specs.Prelude.{◌≡◌, ◌==◌, ◌+◌, ◌*◌, ◌<◌, ◌≤◌, ◌^◌, ℕ, None, Some, IfSome, OnOk, max};
-ghost use Rattle.std.specs.Prelude.{OnErr, if◌then◌else◌, slice_index, vec_len};
+ghost use Rattle.std.specs.Prelude.{◌≡◌, ◌==◌, ◌+◌, ◌*◌, ◌<◌, ◌≤◌, ◌^◌, ℕ, None, Some, IfSome, max};
+ghost use Rattle.std.specs.Prelude.{OnErr, OnOk, if◌then◌else◌, slice_index, vec_len};
 ghost use Rattle.mapdb_facts.specs.Names.{processor_limit, same_id};
 ghost use Rattle.mapdb_facts.specs.declared.names.RecordId.{RecordId};
 ghost use Rattle.mapdb_facts.specs.NamePlaces.{HaveFewLists, near_word, place_in};

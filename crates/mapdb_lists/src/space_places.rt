@@ -1,7 +1,7 @@
 //! Where spaces stand among those that came.
 
-ghost use Rattle.std.specs.Prelude.{◌≡◌, ◌==◌, ◌+◌, ◌^◌, ◌<◌, ◌++◌, ◌∷◌, [], ℕ, None, Some, IfSome, OnErr};
-ghost use Rattle.std.specs.Prelude.{OnOk, if◌then◌else◌, length, slice_index, vec_len};
+ghost use Rattle.std.specs.Prelude.{◌≡◌, ◌==◌, ◌+◌, ◌^◌, ◌<◌, ◌++◌, ◌∷◌, [], ℕ, None, Some, IfSome};
+ghost use Rattle.std.specs.Prelude.{OnErr, OnOk, if◌then◌else◌, length, slice_index, vec_len};
 ghost use Rattle.std.specs.Map.{lookup};
 ghost use Rattle.mapdb_facts.specs.Names.{same_space};
 ghost use Rattle.mapdb_facts.specs.declared.names.Space.{Space};
