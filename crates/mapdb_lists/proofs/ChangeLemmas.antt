@@ -4,5 +4,6 @@ pub mod ListWrites
 pub mod ManyChanges
 pub mod RecordChanges
 pub mod Writing
+pub mod Replacing
 pub mod MovedChanges
 pub mod SharedShift

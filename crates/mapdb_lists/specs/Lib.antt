@@ -6,5 +6,6 @@ pub mod Listing
 pub mod PageOrder
 pub mod OwnChanges
 pub mod Changes
+pub mod Replacing
 pub mod FewChanges
 pub mod BySpace

@@ -1,11 +1,11 @@
 //! What records have at pages, kept as the pages from which something else stands.
 
-ghost use Rattle.std.specs.Prelude.{◌≡◌, ◌≤◌, ◌<◌, ◌+◌, ℕ, None, OnOk, [], true, if◌then◌else◌};
-ghost use Rattle.mapdb_facts.specs.declared.names.RecordId.{RecordId};
-ghost use Rattle.mapdb_lists.specs.Changes.{IsStretch, IsWritten, at_first, cached_in, change_at};
-ghost use Rattle.mapdb_lists.specs.Changes.{changed, covers, past_the_end, seen_in};
+ghost use Rattle.std.specs.Prelude.{◌≡◌, ◌≤◌, ◌<◌, ◌+◌, ℕ, None, IfOk, [], true};
+ghost use Rattle.mapdb_lists.specs.Changes.{IsStretch, at_first, cached_in, change_at};
+ghost use Rattle.mapdb_lists.specs.Changes.{past_the_end, seen_in};
 ghost use Rattle.mapdb_lists.specs.FewChanges.{with_shift};
 ghost use Rattle.mapdb_lists.specs.OwnChanges.{IsLastUpTo, IsNoneUntil};
+ghost use Rattle.mapdb_lists.specs.Replacing.{IsReplacedIn, IsReplacedOf};
 
 use crate::own_changes::OwnChanges;
 use mapdb_facts::{ByName, RecordId};
@@ -81,6 +81,16 @@ impl Stretch {
             end,
         }
     }
+}
+
+/// How far pages of a record go that were to get a change, and whether they got it.
+#[derive(Clone, Copy, Debug)]
+pub struct Replaced {
+    /// One past the last of the pages: one change stood at all of them.
+    pub end: u64,
+    /// Where they have other rights than before: whether the record had a right at some page. None
+    /// where they had these rights already; then nothing has changed.
+    pub had_some: Option<bool>,
 }
 
 /// The changes of all records, each record's by themselves.
@@ -192,56 +202,50 @@ pub fn unchanged_until(changes: &AllChanges, id: RecordId, page: u64) -> u64
     next_change(changes, id, page)
 }
 
-/// Gives a change to pages of a record among all, over which another stood. The record's changes
+/// Gives a change to pages of a record among all, as far as one stands there. The record's changes
 /// are looked up once. An error where memory ran out.
-fn write_among(
+#[inline(always)]
+fn replace_among(
     own_changes: &mut ByName<OwnChanges>,
     alloc: Global,
     id: RecordId,
     first: u64,
-    end: u64,
-    was: Change,
+    limit: u64,
     change: Change,
-) -> Result<(), AllocError>
-    requires some { first < end }
-    requires one { IsNoneUntil (change_at own_changes.old.entries id) first end }
-    requires was { was ≡ changed (change_at own_changes.old.entries id) (at_first id) first }
-    ensures { OnOk result (IsWritten own_changes.old.entries id first end was change
+) -> Result<Replaced, AllocError>
+    requires some { first < limit }
+    requires limit { limit ≤ PAGE_LIMIT }
+    ensures { IfOk result (IsReplacedOf own_changes.old.entries id first limit change
         own_changes.new.entries) }
 {
     let before = first_change(id);
     if let Some(at) = own_changes.places.get(id) {
-        return own_changes.values[at].write(alloc, before, first, end, was, change);
+        return own_changes.values[at].replace(alloc, before, first, limit, change);
     }
     let mut own = OwnChanges::new(alloc);
-    own.write(alloc, before, first, end, was, change)?;
-    own_changes.insert(id, own)
+    let replaced = own.replace(alloc, before, first, limit, change)?;
+    if replaced.had_some.is_none() {
+        return Ok(replaced);
+    }
+    own_changes.insert(id, own)?;
+    Ok(replaced)
 }
 
-/// Gives a change to the pages of a record, by number, from `first` on up to before `end`, over
-/// which one change stands: `was`. An error where memory ran out; nothing is said of the changes
-/// then.
+/// Gives a change to the pages of a record, by number, from `first` on up to before `limit`, as far
+/// as one change stands there, if that has other rights. An error where memory ran out; nothing is
+/// said of the changes then.
 #[inline(always)]
-pub fn write(
+pub fn replace(
     changes: &mut AllChanges,
     id: RecordId,
     first: u64,
-    end: u64,
-    was: Change,
+    limit: u64,
     change: Change,
-) -> Result<(), AllocError>
-    requires some { first < end }
-    requires limit { end ≤ PAGE_LIMIT }
-    requires one { (q : ℕ) → first < q → q < end → change_at changes.old.own.entries id q ≡ None }
-    requires was { was ≡ seen_in changes.old.own.entries id first }
-    ensures seen { OnOk result ((other : RecordId) (page : ℕ)
-        → seen_in changes.new.own.entries other page
-        ≡ (if covers id first end other page then change
-        else seen_in changes.old.own.entries other page)) }
-    ensures cached { OnOk result ((other : RecordId) (page : ℕ)
-        → cached_in changes.new.own.entries other page
-        ≡ (if covers id first end other page then change.rights
-        else cached_in changes.old.own.entries other page)) }
+) -> Result<Replaced, AllocError>
+    requires some { first < limit }
+    requires limit { limit ≤ PAGE_LIMIT }
+    ensures { IfOk result (IsReplacedIn changes.old.own.entries id first limit change
+        changes.new.own.entries) }
 {
-    write_among(&mut changes.own, changes.alloc, id, first, end, was, change)
+    replace_among(&mut changes.own, changes.alloc, id, first, limit, change)
 }

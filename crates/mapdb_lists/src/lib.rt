@@ -10,7 +10,7 @@
 //! let id = RecordId { number: 1, processor: 0 };
 //! let mut changes = AllChanges::new(rt.alloc());
 //! let all = Change { rights: Rights::ALL, shift: PAGE_LIMIT };
-//! write(&mut changes, id, 0x40, 0x44, Change::NONE, all)?;
+//! replace(&mut changes, id, 0x40, 0x44, all)?;
 //! assert!(rt; cached_at(&changes, id, 0x43) == Rights::ALL);
 //! assert!(rt; cached_at(&changes, id, 0x44) == Rights::NONE);
 //! ```
@@ -36,7 +36,7 @@ mod sorted_places;
 mod space_places;
 
 pub use changes::{
-    AllChanges, Change, Stretch, cached_at, seen_at, stretch_at, unchanged_until, write,
+    AllChanges, Change, Replaced, Stretch, cached_at, replace, seen_at, stretch_at, unchanged_until,
 };
 pub use own_places::{NextPlace, OwnPlace, OwnPlaces, Sweep};
 pub use places::{Listed, Owner, Places};

@@ -1,15 +1,16 @@
 //! The changes of one record: a few in a list, many in a map.
 
-ghost use Rattle.std.specs.Prelude.{◌≡◌, ◌≤◌, ◌<◌, ℕ, None, IsTrue, OnOk};
+ghost use Rattle.std.specs.Prelude.{◌≡◌, ◌≤◌, ◌<◌, ℕ, None, false, true, IfOk, IsTrue, OnOk};
 ghost use Rattle.mapdb_lists.specs.Changes.{IsRewritten, IsStretch, changed};
 ghost use Rattle.mapdb_lists.specs.OwnChanges.{CanKeep, IsLastUpTo, IsNoneUntil, own_change};
+ghost use Rattle.mapdb_lists.specs.Replacing.{HasNoRights, HasRights, IsReplaced};
 ghost use Rattle.mapdb_lists.specs.declared.changes.Change.{Change};
 
-use crate::changes::{Change, Stretch};
+use crate::changes::{Change, Replaced, Stretch};
 use crate::few_changes::FewChanges;
 use crate::limits::FEW_CHANGES;
 use crate::many_changes::{many_last, many_next, many_stretch, many_write};
-use mapdb_fpage::PAGE_LIMIT;
+use mapdb_fpage::{PAGE_LIMIT, Rights};
 use std::alloc::{AllocError, Global};
 use std::collections::BTreeMap;
 
@@ -148,7 +149,7 @@ impl OwnChanges {
     /// Gives a change to pages over which another stood, where this stands before any change. An
     /// error where memory ran out.
     #[inline(always)]
-    pub(crate) fn write(
+    fn write(
         &mut self,
         alloc: Global,
         before: Change,
@@ -166,5 +167,65 @@ impl OwnChanges {
         self.fit(alloc, before, change)?;
         self.write_there(before, first, end, was, change)?;
         self.widen(alloc)
+    }
+
+    /// Whether there are rights at some page, where this stands before any change.
+    fn has_rights(&self, before: Change) -> bool
+        ensures some { result ≡ true → HasRights (own_change self.now) before }
+        ensures none { result ≡ false → HasNoRights (own_change self.now) before }
+    {
+        let mut page = 0;
+        'pages: while page < PAGE_LIMIT {
+            let next = self.stretch(before, page);
+            if !next.change.rights.is_none() {
+                return true;
+            }
+            page = next.end;
+        }
+        false
+    }
+
+    /// Whether there are rights at some page, where this stands before any change, and there are
+    /// these at that page.
+    #[inline(always)]
+    fn has_some(&self, before: Change, near: u64, rights: Rights) -> bool
+        requires limit { near < PAGE_LIMIT }
+        requires near { rights ≡ (changed (own_change self.now) before near).rights }
+        ensures some { result ≡ true → HasRights (own_change self.now) before }
+        ensures none { result ≡ false → HasNoRights (own_change self.now) before }
+    {
+        !rights.is_none() || self.has_rights(before)
+    }
+
+    /// Gives a change to pages up to before a limit, as far as one stands there, if that has other
+    /// rights, where this stands before any change. An error where memory ran out.
+    #[inline(always)]
+    pub(crate) fn replace(
+        &mut self,
+        alloc: Global,
+        before: Change,
+        first: u64,
+        limit: u64,
+        change: Change,
+    ) -> Result<Replaced, AllocError>
+        requires some { first < limit }
+        requires limit { limit ≤ PAGE_LIMIT }
+        ensures { IfOk result (IsReplaced (own_change self.old) before first limit change
+            (own_change self.new)) }
+    {
+        let was = self.stretch(before, first);
+        let end = was.end.min(limit);
+        if was.change.rights == change.rights {
+            return Ok(Replaced {
+                end,
+                had_some: None,
+            });
+        }
+        let had_some = self.has_some(before, first, was.change.rights);
+        self.write(alloc, before, first, end, was.change, change)?;
+        Ok(Replaced {
+            end,
+            had_some: Some(had_some),
+        })
     }
 }

@@ -1,9 +1,9 @@
 -- Where spaces stand, and what stands there.
-use Rattle.std.proofs.Common.{◌≡◌, ℕ, zero, suc, ◌<◌, ◌+◌, List, [], ◌∷◌, ◌++◌, length, set, refl, ap, sym, ◌∙◌, Bool, true, false, cond, inl, inr, arith}
+use Rattle.std.proofs.Common.{◌≡◌, ℕ, zero, suc, ◌<◌, List, [], ◌∷◌, ◌++◌, length, set, refl, ap, sym, ◌∙◌, Bool, true, false, cond, inl, inr, arith}
 use Rattle.std.specs.Prelude.{Option, None, Some, ◌==◌, ◌⊎◌, map, slice_get, slice_index}
 use Rattle.std.specs.List.{list_any}
 use Rattle.std.specs.Map.{lookup}
-use Rattle.std.proofs.lemmas.Bool.{and_left, cases_Bool, cond-false, cond-true, eqb-false, eqb-true, false≢true}
+use Rattle.std.proofs.lemmas.Bool.{and_left, cases_Bool, cond-false, cond-true, eqb-false, eqb-true}
 use Rattle.std.proofs.lemmas.Map.Keys.{any_passes_from_place}
 use Rattle.std.proofs.lemmas.Option.{slice_get_within}
 use Rattle.mapdb_facts.specs.ByName.{value_at}
