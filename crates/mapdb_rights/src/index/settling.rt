@@ -1,85 +1,26 @@
 //! Cached rights follow from the parents' again, from what is stale down to what has its pages from
 //! there. Frames come with the rights.
 
-ghost use Rattle.std.specs.Prelude.{◌≡◌, ◌≤◌, ◌<◌, ◌+◌, ◌-◌, ◌*◌, ◌++◌, ◌∷◌, ◌⊎◌, [], ℕ, true};
+ghost use Rattle.std.specs.Prelude.{◌≡◌, ◌≤◌, ◌<◌, ◌+◌, ◌-◌, ◌*◌, ◌++◌, ◌∷◌, [], ℕ, true};
 ghost use Rattle.std.specs.Prelude.{OnOk};
 ghost use Rattle.mapdb_facts.specs.Facts.{state_of_facts};
 ghost use Rattle.mapdb_facts.specs.declared.names.RecordId.{RecordId};
 ghost use Rattle.mapdb_lists.specs.Changes.{covers, cached_in};
-ghost use Rattle.mapdb_lists.specs.Listing.{listed_len};
-ghost use Rattle.mapdb_rights.specs.Caching.{IsSettled};
 ghost use Rattle.mapdb_rights.specs.CachedFrames.{AreFrames};
 ghost use Rattle.mapdb_rights.specs.Following.{AreListed, Shows};
 ghost use Rattle.mapdb_rights.specs.IdlePlaces.{StayNoted};
 ghost use Rattle.mapdb_rights.specs.LivePlaces.{ListsLive};
-ghost use Rattle.mapdb_rights.specs.Pending.{AreSettledBut, IsPending, base_of, share, weight};
-ghost use Rattle.mapdb_rights.specs.Pending.{worth};
-ghost use Rattle.mapdb_rights.specs.Stepping.{IsStep};
+ghost use Rattle.mapdb_rights.specs.Pending.{AreSettledBut, IsPending, base_of, weight, worth};
 
 use super::children::push_children;
 use super::live_places::follow_live;
-use super::runs::has_some;
 use super::stale::Stale;
-use super::stepping::{Step, step_at};
+use super::stepping::given_at;
 use mapdb_facts::{Facts, RecordId};
 use mapdb_fpage::PAGE_LIMIT;
-use mapdb_lists::{AllChanges, Places, write};
+use mapdb_lists::{AllChanges, Places, replace};
 use smallvec::SmallVec;
 use std::alloc::AllocError;
-
-/// Pages over which all is steady get what follows from the parent. Where the rights are others
-/// than before, the record's place comes to those with rights or goes from them, with its name
-/// noted, and the pages of children that come from there join what is stale.
-#[inline(always)]
-fn settle_run(
-    changes: &mut AllChanges,
-    live: &mut Places,
-    idle: &mut SmallVec<RecordId, 1>,
-    stack: &mut SmallVec<Stale, 1>,
-    listed: &Places,
-    facts: &Facts,
-    run: Stale,
-    next: Step,
-) -> Result<(), AllocError>
-    requires listed { AreListed (state_of_facts facts.now) listed.now }
-    requires frames { AreFrames (state_of_facts facts.now) changes.old.own.entries }
-    requires live { ListsLive (state_of_facts facts.now) (cached_in changes.old.own.entries)
-        live.old }
-    requires step { IsStep (state_of_facts facts.now) changes.old.own.entries run.id run.first
-        next }
-    requires some { run.first < run.end }
-    requires within { run.end ≤ next.end }
-    ensures frames { OnOk result (AreFrames (state_of_facts facts.now) changes.new.own.entries) }
-    ensures live { OnOk result (ListsLive (state_of_facts facts.now)
-        (cached_in changes.new.own.entries) live.new) }
-    ensures noted { OnOk result (StayNoted (cached_in changes.old.own.entries) idle.old.items
-        (cached_in changes.new.own.entries) idle.new.items) }
-    ensures settled { OnOk result ((id : RecordId) (page : ℕ)
-        → IsSettled (state_of_facts facts.now) (cached_in changes.old.own.entries) id page
-        ⊎ (covers run.id run.first run.end id page ≡ true)
-        → IsSettled (state_of_facts facts.now) (cached_in changes.new.own.entries) id page
-        ⊎ IsPending stack.new.items id page) }
-    ensures pending { OnOk result ((id : RecordId) (page : ℕ) → IsPending stack.old.items id page
-        → IsPending stack.new.items id page) }
-    ensures weight { OnOk result ((base : ℕ) → 0 < base → weight base stack.new.items
-        ≤ weight base stack.old.items + listed_len listed.now * share base (run.id.number + 1)) }
-{
-    if next.change.rights == next.old.rights {
-        return Ok(());
-    }
-    let had_some = has_some(changes, run.id, run.first, next.old.rights);
-    write(changes, run.id, run.first, run.end, next.old, next.change)?;
-    follow_live(
-        live,
-        idle,
-        changes,
-        facts,
-        run,
-        next.change.rights,
-        had_some,
-    )?;
-    push_children(stack, listed, facts, run.id, run.first, run.end)
-}
 
 /// Those of the pages that begin at the end of a run stay stale.
 #[inline(always)]
@@ -102,7 +43,10 @@ fn keep_rest(stack: &mut SmallVec<Stale, 1>, stale: Stale, end: u64) -> Result<(
     Ok(())
 }
 
-/// Settles the first of these pages, as far as all is steady. The others stay stale.
+/// Settles the first of these pages, as far as all is steady: they get what follows from the parent.
+/// The others stay stale. Where the rights are others than before, the record's place comes to those
+/// with rights or goes from them, with its name noted, and the pages of children that come from
+/// there join what is stale.
 #[inline(always)]
 fn settle_next(
     changes: &mut AllChanges,
@@ -132,15 +76,28 @@ fn settle_next(
     if stale.first >= stale.end {
         return Ok(());
     }
-    let next = step_at(changes, facts, stale.id, stale.first);
-    let end = stale.end.min(next.end);
-    keep_rest(stack, stale, end)?;
+    let given = given_at(changes, facts, stale.id, stale.first);
+    let limit = stale.end.min(given.end);
+    let replaced = replace(changes, stale.id, stale.first, limit, given.change)?;
+    keep_rest(stack, stale, replaced.end)?;
+    let Some(had_some) = replaced.had_some else {
+        return Ok(());
+    };
     let run = Stale {
         id: stale.id,
         first: stale.first,
-        end,
+        end: replaced.end,
     };
-    settle_run(changes, live, idle, stack, listed, facts, run, next)
+    follow_live(
+        live,
+        idle,
+        changes,
+        facts,
+        run,
+        given.change.rights,
+        had_some,
+    )?;
+    push_children(stack, listed, facts, run.id, run.first, run.end)
 }
 
 /// Settles what is stale, until nothing is. The names of records that lost all their rights are

@@ -7,24 +7,12 @@ ghost use Rattle.mapdb_facts.specs.Facts.{state_of_facts};
 ghost use Rattle.mapdb_facts.specs.Names.{is_root};
 ghost use Rattle.mapdb_facts.specs.WellFormed.{IsFormedRecord};
 ghost use Rattle.mapdb_lists.specs.Changes.{PageChanges};
-ghost use Rattle.mapdb_rights.specs.Stepping.{IsGiven, IsStep};
+ghost use Rattle.mapdb_rights.specs.Stepping.{IsGiven};
 
 use crate::sources::source_of;
 use mapdb_facts::{Facts, Record, RecordId};
 use mapdb_fpage::{PAGE_LIMIT, Rights};
 use mapdb_lists::{AllChanges, Change, Stretch, stretch_at};
-
-/// What is cached of a record at a page, what follows there from its parent, and how far both go
-/// on.
-#[derive(Clone, Copy, Debug)]
-pub struct Step {
-    /// What is cached.
-    pub old: Change,
-    /// What follows from the parent.
-    pub change: Change,
-    /// The end of the pages over which both stand.
-    pub end: u64,
-}
 
 /// The rights that are taken from a record at a page, and the end of the pages from it on at which
 /// they are.
@@ -85,7 +73,7 @@ fn child_given(changes: &AllChanges, facts: &Facts, mapping: &Record, page: u64)
 
 /// What follows from a record's parent at a page, and how far that goes on.
 #[inline(always)]
-fn given_at(changes: &AllChanges, facts: &Facts, id: RecordId, page: u64) -> Stretch
+pub(crate) fn given_at(changes: &AllChanges, facts: &Facts, id: RecordId, page: u64) -> Stretch
     requires { page < PAGE_LIMIT }
     ensures { IsGiven (state_of_facts facts.now) changes.now.own.entries id page result }
 {
@@ -102,19 +90,4 @@ fn given_at(changes: &AllChanges, facts: &Facts, id: RecordId, page: u64) -> Str
         return Stretch::none_until(PAGE_LIMIT);
     }
     child_given(changes, facts, &mapping, page)
-}
-
-/// What is cached of a record at a page, and what follows there from its parent.
-#[inline(always)]
-pub(crate) fn step_at(changes: &AllChanges, facts: &Facts, id: RecordId, page: u64) -> Step
-    requires { page < PAGE_LIMIT }
-    ensures { IsStep (state_of_facts facts.now) changes.now.own.entries id page result }
-{
-    let own = stretch_at(changes, id, page);
-    let given = given_at(changes, facts, id, page);
-    Step {
-        old: own.change,
-        change: given.change,
-        end: own.end.min(given.end),
-    }
 }
