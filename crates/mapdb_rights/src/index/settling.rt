@@ -43,10 +43,10 @@ fn keep_rest(stack: &mut SmallVec<Stale, 1>, stale: Stale, end: u64) -> Result<(
     Ok(())
 }
 
-/// Settles the first of these pages, as far as all is steady: they get what follows from the parent.
-/// The others stay stale. Where the rights are others than before, the record's place comes to those
-/// with rights or goes from them, with its name noted, and the pages of children that come from
-/// there join what is stale.
+/// Settles the first of these pages, as far as all is steady: they get what follows from the
+/// parent. The others stay stale. Where the rights are others than before, the record's place comes
+/// to those with rights or goes from them, with its name noted, and the pages of children that come
+/// from there join what is stale.
 #[inline(always)]
 fn settle_next(
     changes: &mut AllChanges,
