@@ -3,6 +3,7 @@
 ghost use Rattle.std.specs.Prelude.{◌≡◌, ◌≤◌, ◌+◌, ◌++◌, [], ℕ, List, true, length, vec_len, IfOk};
 ghost use Rattle.std.specs.Prelude.{OnOk, OnErr};
 ghost use Rattle.mapdb_lines.specs.Fronts.{BeginsWith};
+ghost use Rattle.mapdb_lines.specs.declared.limits.TheConstants.{BLOCK_BYTES};
 
 use crate::limits::BLOCK_BYTES;
 use crate::streams::{Failed, Sink};
@@ -17,7 +18,7 @@ pub struct Block {
     end: usize,
     ghost ordered: { start ≤ end },
     ghost within: { end ≤ vec_len piece },
-    ghost room: { vec_len piece ≡ 65536 },
+    ghost room: { vec_len piece ≡ BLOCK_BYTES },
 }
 
 impl Block {
@@ -55,7 +56,7 @@ impl Block {
 
     /// Has the text wait, for which there is room.
     fn add(&mut self, text: &[u8])
-        requires room { self.old.end + length text.now ≤ 65536 }
+        requires room { self.old.end + length text.now ≤ BLOCK_BYTES }
         ensures { waiting self.new ≡ waiting self.old ++ text.now }
     {
         let end = self.end + text.len();
