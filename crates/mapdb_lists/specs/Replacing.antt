@@ -1,5 +1,5 @@
 -- Pages of a record that are to get a change, as far as one stands there.
-use Rattle.std.specs.Prelude.{◌≡◌, ◌<◌, ◌≤◌, ℕ, Bool, true, false, Option, Some, None}
+use Rattle.std.specs.Prelude.{◌≡◌, ◌≢◌, ◌<◌, ◌≤◌, ℕ, Bool, true, false, Option, Some, None}
 use Rattle.std.specs.Prelude.{if◌then◌else◌}
 use Rattle.mapdb_fpage.specs.Bounds.{page_limit}
 use Rattle.mapdb_fpage.specs.RightSets.{is_empty}
@@ -21,23 +21,25 @@ HasNoRights at before = (page : ℕ) → page < page_limit
     → is_empty (changed at before page).rights ≡ true
 
 -- The pages had the rights already, and all changes stay.
-pub record IsKept (old : ℕ → Option Change) (before : Change) (first : ℕ) (change : Change)
+pub record IsUnchanged (old : ℕ → Option Change) (before : Change) (first : ℕ) (change : Change)
     (new : ℕ → Option Change) : Type 0 where
   pub rights : (changed old before first).rights ≡ change.rights
   pub same : (page : ℕ) → new page ≡ old page
 
 -- The pages up to the end had other rights, and got the change.
-pub record IsGiven (old : ℕ → Option Change) (before : Change) (first end : ℕ) (change : Change)
-    (new : ℕ → Option Change) (had_some : Bool) : Type 0 where
+pub record IsOverwritten (old : ℕ → Option Change) (before : Change) (first end : ℕ)
+    (change : Change) (new : ℕ → Option Change) (had_some : Bool) : Type 0 where
+  pub other : (changed old before first).rights ≢ change.rights
   pub given : IsRewritten old before first end (changed old before first) change new
   pub some : had_some ≡ true → HasRights old before
   pub none : had_some ≡ false → HasNoRights old before
 
-abbrev pub IsKeptOrGiven : (ℕ → Option Change) → Change → ℕ → ℕ → Change → (ℕ → Option Change)
+-- one of both, as it is told
+abbrev pub IsOutcome : (ℕ → Option Change) → Change → ℕ → ℕ → Change → (ℕ → Option Change)
     → Option Bool → Type 0
-IsKeptOrGiven old before first end change new None = IsKept old before first change new
-IsKeptOrGiven old before first end change new (Some had_some) =
-    IsGiven old before first end change new had_some
+IsOutcome old before first end change new None = IsUnchanged old before first change new
+IsOutcome old before first end change new (Some had_some) =
+    IsOverwritten old before first end change new had_some
 
 -- what one record's changes come to
 pub record IsReplaced (old : ℕ → Option Change) (before : Change) (first limit : ℕ)
@@ -45,7 +47,7 @@ pub record IsReplaced (old : ℕ → Option Change) (before : Change) (first lim
   pub above : first < replaced.end
   pub within : replaced.end ≤ limit
   pub one : IsNoneUntil old first replaced.end
-  pub how : IsKeptOrGiven old before first replaced.end change new replaced.had_some
+  pub how : IsOutcome old before first replaced.end change new replaced.had_some
 
 -- the same among those of all records
 pub record IsReplacedOf (old : PageChanges) (id : RecordId) (first limit : ℕ) (change : Change)
@@ -56,14 +58,15 @@ pub record IsReplacedOf (old : PageChanges) (id : RecordId) (first limit : ℕ) 
       → change_at new other page ≡ change_at old other page
 
 -- By what is seen: the record had the rights already, and all that is seen stays ..
-pub record IsSeenKept (old : PageChanges) (id : RecordId) (first end : ℕ) (change : Change)
+pub record IsSeenUnchanged (old : PageChanges) (id : RecordId) (first end : ℕ) (change : Change)
     (new : PageChanges) : Type 0 where
   pub rights : (page : ℕ) → first ≤ page → page < end → cached_in old id page ≡ change.rights
   pub same : (other : RecordId) (page : ℕ) → seen_in new other page ≡ seen_in old other page
 
 -- .. or its pages up to the end got the change, and all other pages have what they had.
-pub record IsSeenGiven (old : PageChanges) (id : RecordId) (first end : ℕ) (change : Change)
+pub record IsSeenOverwritten (old : PageChanges) (id : RecordId) (first end : ℕ) (change : Change)
     (new : PageChanges) (had_some : Bool) : Type 0 where
+  pub other : cached_in old id first ≢ change.rights
   pub seen : (other : RecordId) (page : ℕ) → seen_in new other page
       ≡ (if covers id first end other page then change else seen_in old other page)
   pub cached : (other : RecordId) (page : ℕ) → cached_in new other page
@@ -71,15 +74,16 @@ pub record IsSeenGiven (old : PageChanges) (id : RecordId) (first end : ℕ) (ch
   pub some : had_some ≡ true → (page : ℕ) × (is_empty (cached_in old id page) ≡ false)
   pub none : had_some ≡ false → (page : ℕ) → is_empty (cached_in old id page) ≡ true
 
-abbrev pub IsSeenKeptOrGiven : PageChanges → RecordId → ℕ → ℕ → Change → PageChanges
+-- one of both, as it is told
+abbrev pub IsSeenReplaced : PageChanges → RecordId → ℕ → ℕ → Change → PageChanges
     → Option Bool → Type 0
-IsSeenKeptOrGiven old id first end change new None = IsSeenKept old id first end change new
-IsSeenKeptOrGiven old id first end change new (Some had_some) =
-    IsSeenGiven old id first end change new had_some
+IsSeenReplaced old id first end change new None = IsSeenUnchanged old id first end change new
+IsSeenReplaced old id first end change new (Some had_some) =
+    IsSeenOverwritten old id first end change new had_some
 
 -- what is seen of all records then
 pub record IsReplacedIn (old : PageChanges) (id : RecordId) (first limit : ℕ) (change : Change)
     (new : PageChanges) (replaced : Replaced) : Type 0 where
   pub above : first < replaced.end
   pub within : replaced.end ≤ limit
-  pub how : IsSeenKeptOrGiven old id first replaced.end change new replaced.had_some
+  pub how : IsSeenReplaced old id first replaced.end change new replaced.had_some

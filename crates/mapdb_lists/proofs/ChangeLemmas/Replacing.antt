@@ -15,7 +15,7 @@ use Rattle.mapdb_lists.specs.declared.changes.Replaced.{Replaced}
 use Rattle.mapdb_lists.specs.declared.changes.Stretch.{Stretch}
 use Rattle.mapdb_lists.specs.Changes.{covers, IsStretch, IsWritten, PageChanges, at_first, cached_in, change_at, changed, past_the_end, seen_in}
 use Rattle.mapdb_lists.specs.OwnChanges.{IsNoneUntil}
-use Rattle.mapdb_lists.specs.Replacing.{HasNoRights, HasRights, IsKeptOrGiven, IsReplacedIn, IsReplacedOf, IsSeenKeptOrGiven}
+use Rattle.mapdb_lists.specs.Replacing.{HasNoRights, HasRights, IsOutcome, IsReplacedIn, IsReplacedOf, IsSeenReplaced}
 use Rattle.mapdb_lists.proofs.ChangeLemmas.LastChanges.{changed-same, changed-stays}
 use Rattle.mapdb_lists.proofs.ChangeLemmas.Writing.{given_everywhere, seen_alike, seen_stays}
 use Rattle.mapdb_lists.proofs.PlaceLemmas.Meetings.{either_way}
@@ -28,8 +28,8 @@ stretch_left at before page stretch h q from up_to =
 
 -- where nothing had to be given, the changes may stand elsewhere
 pub kept_elsewhere : (old new at : ℕ → Option Change) (before : Change) (first end : ℕ) (change : Change) (had_some : Option Bool)
-    → is_some had_some ≡ false → ((q : ℕ) → old q ≡ at q) → IsKeptOrGiven old before first end change new had_some
-    → IsKeptOrGiven at before first end change at had_some
+    → is_some had_some ≡ false → ((q : ℕ) → old q ≡ at q) → IsOutcome old before first end change new had_some
+    → IsOutcome at before first end change at had_some
 kept_elsewhere old new at before first end change None _ same kept = record {
   rights = ap (λ (c : Change). c.rights) (sym (changed-same old at before first (λ q _. same q))) ∙ kept.rights;
   same = λ page. refl;
@@ -64,8 +64,8 @@ module _ (old new : PageChanges) (id : RecordId) (first end : ℕ) (change : Cha
     | inr apart ↦ others other page apart
   ]
 
-  seen_how : (had_some : Option Bool) → IsKeptOrGiven (change_at old id) (at_first id) first end change (change_at new id) had_some
-      → IsSeenKeptOrGiven old id first end change new had_some
+  seen_how : (had_some : Option Bool) → IsOutcome (change_at old id) (at_first id) first end change (change_at new id) had_some
+      → IsSeenReplaced old id first end change new had_some
   seen_how None kept = record {
     rights = λ page from before.
         ap (λ (c : Change). c.rights) (seen_stays old id first page from (omega (arith, limit, before)) (λ q after up_to. one q after (omega (arith, before))) ∙ seen_left first (omega (arith, above, limit)))
@@ -76,6 +76,7 @@ module _ (old new : PageChanges) (id : RecordId) (first end : ℕ) (change : Cha
       let written : IsWritten old id first end (changed (change_at old id) (at_first id) first) change new = record { own = got.given; others = others } in
       let seen = given_everywhere old new id first end (changed (change_at old id) (at_first id) first) change written above limit one (sym (seen_left first (omega (arith, above, limit)))) in
       record {
+        other = λ is. got.other (ap (λ (c : Change). c.rights) (sym (seen_left first (omega (arith, above, limit)))) ∙ is);
         seen = seen;
         cached = λ other page. ap (λ (c : Change). c.rights) (seen other page) ∙ rights_of_either (covers id first end other page) change (seen_in old other page);
         some = λ had. some_seen (got.some had);

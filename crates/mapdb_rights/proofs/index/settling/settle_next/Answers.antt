@@ -8,7 +8,7 @@ use Rattle.mapdb_facts.specs.declared.names.RecordId.{RecordId}
 use Rattle.mapdb_fpage.specs.RightSets.{is_empty}
 use Rattle.mapdb_lists.specs.Changes.{Cached, PageChanges, cached_in, covers}
 use Rattle.mapdb_lists.specs.Listing.{listed_len}
-use Rattle.mapdb_lists.specs.Replacing.{IsSeenGiven, IsSeenKept, IsSeenKeptOrGiven}
+use Rattle.mapdb_lists.specs.Replacing.{IsSeenOverwritten, IsSeenUnchanged, IsSeenReplaced}
 use Rattle.mapdb_lists.specs.declared.changes.Change.{Change}
 use Rattle.mapdb_lists.proofs.Lists.Results.{on_any, on_both}
 use Rattle.mapdb_rights.specs.CachedFrames.{HasFrame}
@@ -30,18 +30,18 @@ returns-then-stale-clause-weight c =
 
 -- nothing is seen otherwise than before
 kept : {old new : PageChanges} {id : RecordId} {first end : ℕ} {change : Change} {had_some : Option Bool}
-    → had_some ≡ None → IsSeenKeptOrGiven old id first end change new had_some → IsSeenKept old id first end change new
+    → had_some ≡ None → IsSeenReplaced old id first end change new had_some → IsSeenUnchanged old id first end change new
 kept {old = old} {new = new} {id = id} {first = first} {end = end} {change = change} none how =
-    subst (λ (had : Option Bool). IsSeenKeptOrGiven old id first end change new had) none how
+    subst (λ (had : Option Bool). IsSeenReplaced old id first end change new had) none how
 
-still : {old new : PageChanges} {id : RecordId} {first end : ℕ} {change : Change} → IsSeenKept old id first end change new → cached_in new ≡ cached_in old
+still : {old new : PageChanges} {id : RecordId} {first end : ℕ} {change : Change} → IsSeenUnchanged old id first end change new → cached_in new ≡ cached_in old
 still as_before = λ i. λ other page. (as_before.same other page i).rights
 
 -- what is seen where other rights were given
 got : {old new : PageChanges} {id : RecordId} {first end : ℕ} {change : Change} {had_some : Option Bool} {had : Bool}
-    → had_some ≡ Some had → IsSeenKeptOrGiven old id first end change new had_some → IsSeenGiven old id first end change new had
+    → had_some ≡ Some had → IsSeenReplaced old id first end change new had_some → IsSeenOverwritten old id first end change new had
 got {old = old} {new = new} {id = id} {first = first} {end = end} {change = change} some how =
-    subst (λ (had : Option Bool). IsSeenKeptOrGiven old id first end change new had) some how
+    subst (λ (had : Option Bool). IsSeenReplaced old id first end change new had) some how
 
 pub returns-in_default-clause-frames : goal.returns-in_default-clause-frames
 returns-in_default-clause-frames c id page some =
