@@ -1,6 +1,7 @@
 //! What records have at pages, kept as the pages from which something else stands.
 
-ghost use Rattle.std.specs.Prelude.{◌≡◌, ◌≤◌, ◌<◌, ◌+◌, ℕ, None, IfOk, [], true};
+ghost use Rattle.std.specs.Prelude.{◌≡◌, ◌≤◌, ◌<◌, ◌+◌, ℕ, None, IfOk, [], false, true};
+ghost use Rattle.mapdb_fpage.specs.RightSets.{is_empty};
 ghost use Rattle.mapdb_lists.specs.Changes.{IsStretch, at_first, cached_in, change_at};
 ghost use Rattle.mapdb_lists.specs.Changes.{past_the_end, seen_in};
 ghost use Rattle.mapdb_lists.specs.FewChanges.{with_shift};
@@ -171,6 +172,20 @@ pub fn cached_at(changes: &AllChanges, id: RecordId, page: u64) -> Rights
     ensures { result ≡ cached_in changes.now.own.entries id page }
 {
     seen_at(changes, id, page).rights
+}
+
+/// Whether a record has a right at some page, as it is cached. Its changes are looked up once.
+pub fn has_rights(changes: &AllChanges, id: RecordId) -> bool
+    ensures some { result ≡ true → (page : ℕ)
+        × (is_empty (cached_in changes.now.own.entries id page) ≡ false) }
+    ensures none { result ≡ false → (page : ℕ)
+        → is_empty (cached_in changes.now.own.entries id page) ≡ true }
+{
+    let first = first_change(id);
+    match changes.own.get(id) {
+        Some(own) => own.has_rights(first),
+        None => !first.rights.is_none(),
+    }
 }
 
 /// What is cached of a record at a page, and how far one change stands. The record's changes are

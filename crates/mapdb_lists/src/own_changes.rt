@@ -170,7 +170,7 @@ impl OwnChanges {
     }
 
     /// Whether there are rights at some page, where this stands before any change.
-    fn has_rights(&self, before: Change) -> bool
+    pub(crate) fn has_rights(&self, before: Change) -> bool
         ensures some { result ≡ true → HasRights (own_change self.now) before }
         ensures none { result ≡ false → HasNoRights (own_change self.now) before }
     {

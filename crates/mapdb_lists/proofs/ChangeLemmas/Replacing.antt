@@ -36,20 +36,15 @@ kept_elsewhere old new at before first end change None _ same kept = record {
 }
 kept_elsewhere old new at before first end change (Some had_some) none same kept = absurd (false≢true (sym none))
 
-module _ (old new : PageChanges) (id : RecordId) (first end : ℕ) (change : Change)
-    (others : (other : RecordId) (page : ℕ) → same_id id other ≡ false → change_at new other page ≡ change_at old other page)
-    (above : first < end) (limit : end ≤ page_limit) (one : IsNoneUntil (change_at old id) first end) where
-  seen_left : (page : ℕ) → page < page_limit → seen_in old id page ≡ changed (change_at old id) (at_first id) page
+-- what the changes of a record leave is seen of it
+module _ (old : PageChanges) (id : RecordId) where
+  pub seen_left : (page : ℕ) → page < page_limit → seen_in old id page ≡ changed (change_at old id) (at_first id) page
   seen_left page inside = cond-true (is_page page) (changed (change_at old id) (at_first id) page) past_the_end (lt-ltb page page_limit inside)
 
-  rights_of_either : (b : Bool) (x y : Change) → (if b then x else y).rights ≡ (if b then x.rights else y.rights)
-  rights_of_either true x y = refl
-  rights_of_either false x y = refl
-
-  some_seen : HasRights (change_at old id) (at_first id) → (page : ℕ) × (is_empty (cached_in old id page) ≡ false)
+  pub some_seen : HasRights (change_at old id) (at_first id) → (page : ℕ) × (is_empty (cached_in old id page) ≡ false)
   some_seen (page, inside, some) = (page, ap (λ (c : Change). is_empty c.rights) (seen_left page inside) ∙ some)
 
-  none_seen : HasNoRights (change_at old id) (at_first id) → (page : ℕ) → is_empty (cached_in old id page) ≡ true
+  pub none_seen : HasNoRights (change_at old id) (at_first id) → (page : ℕ) → is_empty (cached_in old id page) ≡ true
   none_seen none page = elim (either_way page_limit page) [
     | inr before ↦
         let inside : page < page_limit = omega (arith, before) in
@@ -57,6 +52,13 @@ module _ (old new : PageChanges) (id : RecordId) (first end : ℕ) (change : Cha
     | inl out ↦ ap (λ (c : Change). is_empty c.rights)
         (cond-false (is_page page) (changed (change_at old id) (at_first id) page) past_the_end (grind (arith, nat_tests)))
   ]
+
+module _ (old new : PageChanges) (id : RecordId) (first end : ℕ) (change : Change)
+    (others : (other : RecordId) (page : ℕ) → same_id id other ≡ false → change_at new other page ≡ change_at old other page)
+    (above : first < end) (limit : end ≤ page_limit) (one : IsNoneUntil (change_at old id) first end) where
+  rights_of_either : (b : Bool) (x y : Change) → (if b then x else y).rights ≡ (if b then x.rights else y.rights)
+  rights_of_either true x y = refl
+  rights_of_either false x y = refl
 
   all_stay : ((page : ℕ) → change_at new id page ≡ change_at old id page) → (other : RecordId) (page : ℕ) → change_at new other page ≡ change_at old other page
   all_stay same other page = elim (cases_Bool (same_id id other)) [
@@ -68,19 +70,19 @@ module _ (old new : PageChanges) (id : RecordId) (first end : ℕ) (change : Cha
       → IsSeenReplaced old id first end change new had_some
   seen_how None kept = record {
     rights = λ page from before.
-        ap (λ (c : Change). c.rights) (seen_stays old id first page from (omega (arith, limit, before)) (λ q after up_to. one q after (omega (arith, before))) ∙ seen_left first (omega (arith, above, limit)))
+        ap (λ (c : Change). c.rights) (seen_stays old id first page from (omega (arith, limit, before)) (λ q after up_to. one q after (omega (arith, before))) ∙ seen_left old id first (omega (arith, above, limit)))
         ∙ kept.rights;
     same = λ other page. seen_alike old new other page (λ _. changed-same (change_at new other) (change_at old other) (at_first other) page (λ q _. all_stay kept.same other q));
   }
   seen_how (Some had_some) got =
       let written : IsWritten old id first end (changed (change_at old id) (at_first id) first) change new = record { own = got.given; others = others } in
-      let seen = given_everywhere old new id first end (changed (change_at old id) (at_first id) first) change written above limit one (sym (seen_left first (omega (arith, above, limit)))) in
+      let seen = given_everywhere old new id first end (changed (change_at old id) (at_first id) first) change written above limit one (sym (seen_left old id first (omega (arith, above, limit)))) in
       record {
-        other = λ is. got.other (ap (λ (c : Change). c.rights) (sym (seen_left first (omega (arith, above, limit)))) ∙ is);
+        other = λ is. got.other (ap (λ (c : Change). c.rights) (sym (seen_left old id first (omega (arith, above, limit)))) ∙ is);
         seen = seen;
         cached = λ other page. ap (λ (c : Change). c.rights) (seen other page) ∙ rights_of_either (covers id first end other page) change (seen_in old other page);
-        some = λ had. some_seen (got.some had);
-        none = λ had. none_seen (got.none had);
+        some = λ had. some_seen old id (got.some had);
+        none = λ had. none_seen old id (got.none had);
       }
 
 -- what is seen where pages of one record were to get a change

@@ -9,7 +9,7 @@ ghost use Rattle.mapdb_rights.specs.RightsRuns.{IsFirstRightsRun, runs_behind};
 
 use mapdb_facts::RecordId;
 use mapdb_fpage::{PAGE_LIMIT, Rights};
-use mapdb_lists::{AllChanges, cached_at, stretch_at, unchanged_until};
+use mapdb_lists::{AllChanges, cached_at, has_rights, stretch_at, unchanged_until};
 use std::alloc::{AllocError, Global};
 
 /// Pages of a record, one behind the other, over which it has the same rights, and not none.
@@ -26,8 +26,6 @@ pub struct RightsRun {
 /// The first page from one on where the record has some right.
 fn run_start(changes: &AllChanges, id: RecordId, page: u64) -> Option<u64>
     ensures none { IfNone result (runs_behind (cached_in changes.now.own.entries id) page ≡ []) }
-    ensures no_right { IfNone result ((q : ℕ) → page ≤ q
-        → is_empty (cached_in changes.now.own.entries id q) ≡ true) }
     ensures limit { IfSome result (λ start. start < PAGE_LIMIT) }
     ensures some { IfSome result (λ start. is_empty (cached_in changes.now.own.entries id start)
         ≡ false) }
@@ -53,7 +51,7 @@ pub(crate) fn has_some(changes: &AllChanges, id: RecordId, near: u64, rights: Ri
     ensures none { result ≡ false → (page : ℕ)
         → is_empty (cached_in changes.now.own.entries id page) ≡ true }
 {
-    !rights.is_none() || run_start(changes, id, 0).is_some()
+    !rights.is_none() || has_rights(changes, id)
 }
 
 /// The end of the pages from one on where the record has these same rights.
