@@ -7,6 +7,7 @@ use Rattle.mapdb_lists.specs.declared.changes.Change.{Change}
 use Rattle.mapdb_lists.specs.declared.own_changes.OwnChanges.{OwnChanges}
 use Rattle.mapdb_lists.specs.declared.own_changes.OwnChanges.TheVariants.{Few, Many}
 use Rattle.mapdb_lists.specs.FewChanges.{ShowsChange, few_change}
+use Rattle.mapdb_lists.specs.PageOrder.{IsSpot}
 
 -- the change at a page among those of a map
 abbrev pub mapped_change : BTreeMap ℕ Change → ℕ → Option Change
@@ -21,6 +22,11 @@ own_change (Many map) page = mapped_change map page
 abbrev pub CanKeep : OwnChanges → Change → Type 0
 CanKeep (Few few) change = ShowsChange few.shift change
 CanKeep (Many map) change = ⊤
+
+-- the spot of a page among those in a list: how many stand at it or in front of it
+abbrev pub IsSpotIn : OwnChanges → ℕ → ℕ → Type 0
+IsSpotIn (Few few) page spot = IsSpot few.list page spot
+IsSpotIn (Many map) page spot = ⊤
 
 -- the last change up to a page, with the page where it stands
 pub record IsLastChange {V : Type 0} (at : ℕ → Option V) (page : ℕ) (found : ℕ × V) : Type 0 where

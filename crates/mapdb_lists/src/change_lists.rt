@@ -15,7 +15,7 @@ use std::collections::BTreeMap;
 
 /// How many of the changes stand at a page or in front of it.
 #[inline(always)]
-fn spot_of(list: &[PageRights], page: u64) -> usize
+pub(crate) fn spot_of(list: &[PageRights], page: u64) -> usize
     requires { PagesRise list.now }
     ensures { IsSpot list.now page result }
 {
@@ -24,7 +24,7 @@ fn spot_of(list: &[PageRights], page: u64) -> usize
 
 /// The last change of so many, and where it stands.
 #[inline(always)]
-fn last_at(list: &[PageRights], spot: usize) -> Option<(u64, Rights)>
+pub(crate) fn last_at(list: &[PageRights], spot: usize) -> Option<(u64, Rights)>
     requires rise { PagesRise list.now }
     requires inside { spot ≤ length list.now }
     ensures { (page : ℕ) → IsSpot list.now page spot
@@ -46,7 +46,7 @@ pub(crate) fn list_last(list: &[PageRights], page: u64) -> Option<(u64, Rights)>
 }
 
 /// The page of the change at a spot: the end of the space where there is none.
-fn end_at(list: &[PageRights], spot: usize) -> u64
+pub(crate) fn end_at(list: &[PageRights], spot: usize) -> u64
     ensures there { (d : PageRights) → spot < length list.now
         → result ≤ (get_or list.now spot d).page }
     ensures limit { result ≤ PAGE_LIMIT }
@@ -72,28 +72,15 @@ pub(crate) fn list_next(list: &[PageRights], page: u64) -> u64
     end_at(list, spot)
 }
 
-/// The last change up to a page, and where it stands, with the page of the next one, or the end of
-/// the space: both are found by one search.
+/// Where the change at a page stands, or else where one belongs: so many stand at the page or in
+/// front of it.
 #[inline(always)]
-pub(crate) fn list_stretch(list: &[PageRights], page: u64) -> (Option<(u64, Rights)>, u64)
+pub(crate) fn index_at(list: &[PageRights], page: u64, spot: usize) -> Result<usize, usize>
     requires rise { PagesRise list.now }
-    requires limit { page < PAGE_LIMIT }
-    ensures last { IsLastUpTo (listed_rights list.now) page result.0 }
-    ensures above { page < result.1 }
-    ensures limit { result.1 ≤ PAGE_LIMIT }
-    ensures none { IsNoneUntil (listed_rights list.now) page result.1 }
-{
-    let spot = spot_of(list, page);
-    (last_at(list, spot), end_at(list, spot))
-}
-
-/// Where the change at a page stands, or else where one belongs.
-pub(crate) fn index_of(list: &[PageRights], page: u64) -> Result<usize, usize>
-    requires { PagesRise list.now }
+    requires spot { IsSpot list.now page spot }
     ensures there { IfOk result (StandsAtPage list.now page) }
     ensures gap { IfErr result (IsGap list.now page) }
 {
-    let spot = spot_of(list, page);
     if spot > 0 && list[spot - 1].page == page {
         Ok(spot - 1)
     } else {

@@ -1,6 +1,6 @@
 //! A few changes of a record, in ascending order of page, with one shift for all of them.
 
-use crate::change_lists::{list_last, list_next, list_stretch, map_of};
+use crate::change_lists::{end_at, last_at, list_last, list_next, map_of, spot_of};
 use crate::changes::{Change, Stretch};
 use crate::list_writes::list_write;
 use mapdb_fpage::{PAGE_LIMIT, Rights};
@@ -54,6 +54,7 @@ impl FewChanges {
     ghost use Rattle.mapdb_lists.specs.Changes.{IsRewritten, IsStretch, changed};
     ghost use Rattle.mapdb_lists.specs.FewChanges.{ShowsChange, few_change, shift_for};
     ghost use Rattle.mapdb_lists.specs.OwnChanges.{IsLastUpTo, IsNoneUntil, mapped_change};
+    ghost use Rattle.mapdb_lists.specs.PageOrder.{IsSpot};
 
     /// No changes. It takes no memory.
     pub(crate) fn new(alloc: Global) -> FewChanges
@@ -92,14 +93,25 @@ impl FewChanges {
         list_next(self.list.as_slice(), page)
     }
 
-    /// What stands at a page, and how far, where this stands before any change.
+    /// How many changes stand at a page or in front of it.
     #[inline(always)]
-    pub(crate) fn stretch(&self, first: Change, page: u64) -> Stretch
-        requires { page < PAGE_LIMIT }
-        ensures { IsStretch (few_change self.now) first page result }
+    pub(crate) fn spot(&self, page: u64) -> usize
+        ensures { IsSpot self.now.list page result }
     {
-        let (last, end) = list_stretch(self.list.as_slice(), page);
-        let change = match last {
+        spot_of(self.list.as_slice(), page)
+    }
+
+    /// What stands at a page, and how far, where this stands before any change, and so many stand
+    /// at the page or in front of it.
+    #[inline(always)]
+    pub(crate) fn stretch(&self, first: Change, spot: usize) -> Stretch
+        requires { spot ≤ length self.now.list }
+        ensures { (page : ℕ) → page < PAGE_LIMIT → IsSpot self.now.list page spot
+            → IsStretch (few_change self.now) first page result }
+    {
+        let changes = self.list.as_slice();
+        let end = end_at(changes, spot);
+        let change = match last_at(changes, spot) {
             Some((_, rights)) => Change::with_shift(self.shift, rights),
             None => first,
         };
@@ -139,10 +151,12 @@ impl FewChanges {
     }
 
     /// Gives a change to pages over which another stood, where this stands before any change, and
-    /// the list shows it and the new one as they are. An error where memory ran out.
+    /// the list shows it and the new one as they are; so many stand at the first of the pages or in
+    /// front of it. An error where memory ran out.
     #[inline(always)]
     pub(crate) fn write(
         &mut self,
+        spot: usize,
         before: Change,
         first: u64,
         end: u64,
@@ -150,6 +164,7 @@ impl FewChanges {
         change: Change,
     ) -> Result<(), AllocError>
         requires some { first < end }
+        requires spot { IsSpot self.old.list first spot }
         requires one { IsNoneUntil (few_change self.old) first end }
         requires before { ShowsChange self.old.shift before }
         requires was { was ≡ changed (few_change self.old) before first }
@@ -159,6 +174,7 @@ impl FewChanges {
     {
         list_write(
             &mut self.list,
+            spot,
             before.rights,
             first,
             end,

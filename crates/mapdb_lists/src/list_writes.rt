@@ -12,7 +12,7 @@ ghost use Rattle.mapdb_lists.specs.OwnChanges.{IsNoneUntil};
 ghost use Rattle.mapdb_lists.specs.PageOrder.{AreInFront, IsGap, IsSpot, PagesRise, StandsAtPage};
 ghost use Rattle.mapdb_lists.specs.declared.few_changes.PageRights.{PageRights};
 
-use crate::change_lists::index_of;
+use crate::change_lists::index_at;
 use crate::few_changes::PageRights;
 use crate::limits::ROOM_FOR_CHANGES;
 use mapdb_fpage::{PAGE_LIMIT, Rights};
@@ -280,11 +280,12 @@ fn move_one(
     true
 }
 
-/// Gives a change to pages over which another stood, where this stands before any change. An error
-/// where memory ran out.
+/// Gives a change to pages over which another stood, where this stands before any change, and so
+/// many stand at the first of the pages or in front of it. An error where memory ran out.
 #[inline(always)]
 pub(crate) fn list_write(
     list: &mut SmallVec<PageRights, 2>,
+    spot: usize,
     before: Rights,
     first: u64,
     end: u64,
@@ -292,13 +293,14 @@ pub(crate) fn list_write(
     rights: Rights,
 ) -> Result<(), AllocError>
     requires rise { PagesRise list.old.items }
+    requires spot { IsSpot list.old.items first spot }
     requires some { first < end }
     requires one { IsNoneUntil (listed_rights list.old.items) first end }
     ensures rise { PagesRise list.new.items }
     ensures written { OnOk result (IsRewritten (listed_rights list.old.items) before first end was
         rights (listed_rights list.new.items)) }
 {
-    let found = index_of(list.as_slice(), first);
+    let found = index_at(list.as_slice(), first, spot);
     if move_one(list, found, before, first, end, was, rights) {
         return Ok(());
     }

@@ -2,7 +2,8 @@
 
 ghost use Rattle.std.specs.Prelude.{◌≡◌, ◌≤◌, ◌<◌, ℕ, None, false, true, IfOk, IsTrue, OnOk};
 ghost use Rattle.mapdb_lists.specs.Changes.{IsRewritten, IsStretch, changed};
-ghost use Rattle.mapdb_lists.specs.OwnChanges.{CanKeep, IsLastUpTo, IsNoneUntil, own_change};
+ghost use Rattle.mapdb_lists.specs.OwnChanges.{CanKeep, IsLastUpTo, IsNoneUntil, IsSpotIn};
+ghost use Rattle.mapdb_lists.specs.OwnChanges.{own_change};
 ghost use Rattle.mapdb_lists.specs.Replacing.{HasNoRights, HasRights, IsReplaced};
 ghost use Rattle.mapdb_lists.specs.declared.changes.Change.{Change};
 
@@ -54,16 +55,38 @@ impl OwnChanges {
         }
     }
 
+    /// How many changes stand at a page or in front of it, where they are in a list. A map is
+    /// searched where it is asked.
+    #[inline(always)]
+    fn spot(&self, page: u64) -> usize
+        ensures { IsSpotIn self.now page result }
+    {
+        match self {
+            OwnChanges::Few(few) => few.spot(page),
+            OwnChanges::Many(_) => 0,
+        }
+    }
+
+    /// What stands at a page, whose spot this is, and how far, where this stands before any change.
+    #[inline(always)]
+    fn stretch_from(&self, first: Change, page: u64, spot: usize) -> Stretch
+        requires limit { page < PAGE_LIMIT }
+        requires spot { IsSpotIn self.now page spot }
+        ensures { IsStretch (own_change self.now) first page result }
+    {
+        match self {
+            OwnChanges::Few(few) => few.stretch(first, spot),
+            OwnChanges::Many(map) => many_stretch(map, first, page),
+        }
+    }
+
     /// What stands at a page, and how far, where this stands before any change.
     #[inline(always)]
     pub(crate) fn stretch(&self, first: Change, page: u64) -> Stretch
         requires { page < PAGE_LIMIT }
         ensures { IsStretch (own_change self.now) first page result }
     {
-        match self {
-            OwnChanges::Few(few) => few.stretch(first, page),
-            OwnChanges::Many(map) => many_stretch(map, first, page),
-        }
+        self.stretch_from(first, page, self.spot(page))
     }
 
     /// Goes over to a map, which can keep each change. An error where memory ran out.
@@ -71,6 +94,7 @@ impl OwnChanges {
         ensures same { OnOk result ((page : ℕ)
             → own_change self.new page ≡ own_change self.old page) }
         ensures each { OnOk result ((change : Change) → CanKeep self.new change) }
+        ensures spot { OnOk result ((page spot : ℕ) → IsSpotIn self.new page spot) }
     {
         let map = match self {
             OwnChanges::Few(few) => few.to_map(alloc)?,
@@ -97,6 +121,8 @@ impl OwnChanges {
     #[inline(always)]
     fn takes(&mut self, before: Change, change: Change) -> bool
         ensures same { (page : ℕ) → own_change self.new page ≡ own_change self.old page }
+        ensures spot { (page spot : ℕ) → IsSpotIn self.old page spot
+            → IsSpotIn self.new page spot }
         ensures before { IsTrue result → CanKeep self.new before }
         ensures change { IsTrue result → CanKeep self.new change }
     {
@@ -112,6 +138,8 @@ impl OwnChanges {
     fn fit(&mut self, alloc: Global, before: Change, change: Change) -> Result<(), AllocError>
         ensures same { OnOk result ((page : ℕ)
             → own_change self.new page ≡ own_change self.old page) }
+        ensures spot { OnOk result ((page spot : ℕ) → IsSpotIn self.old page spot
+            → IsSpotIn self.new page spot) }
         ensures before { OnOk result (CanKeep self.new before) }
         ensures change { OnOk result (CanKeep self.new change) }
     {
@@ -126,6 +154,7 @@ impl OwnChanges {
     #[inline(always)]
     fn write_there(
         &mut self,
+        spot: usize,
         before: Change,
         first: u64,
         end: u64,
@@ -133,6 +162,7 @@ impl OwnChanges {
         change: Change,
     ) -> Result<(), AllocError>
         requires some { first < end }
+        requires spot { IsSpotIn self.old first spot }
         requires one { IsNoneUntil (own_change self.old) first end }
         requires before { CanKeep self.old before }
         requires was { was ≡ changed (own_change self.old) before first }
@@ -141,7 +171,7 @@ impl OwnChanges {
             (own_change self.new)) }
     {
         match self {
-            OwnChanges::Few(few) => few.write(before, first, end, was, change),
+            OwnChanges::Few(few) => few.write(spot, before, first, end, was, change),
             OwnChanges::Many(map) => many_write(map, before, first, end, was, change),
         }
     }
@@ -152,6 +182,7 @@ impl OwnChanges {
     fn write(
         &mut self,
         alloc: Global,
+        spot: usize,
         before: Change,
         first: u64,
         end: u64,
@@ -159,13 +190,14 @@ impl OwnChanges {
         change: Change,
     ) -> Result<(), AllocError>
         requires some { first < end }
+        requires spot { IsSpotIn self.old first spot }
         requires one { IsNoneUntil (own_change self.old) first end }
         requires was { was ≡ changed (own_change self.old) before first }
         ensures { OnOk result (IsRewritten (own_change self.old) before first end was change
             (own_change self.new)) }
     {
         self.fit(alloc, before, change)?;
-        self.write_there(before, first, end, was, change)?;
+        self.write_there(spot, before, first, end, was, change)?;
         self.widen(alloc)
     }
 
@@ -213,7 +245,8 @@ impl OwnChanges {
         ensures { IfOk result (IsReplaced (own_change self.old) before first limit change
             (own_change self.new)) }
     {
-        let was = self.stretch(before, first);
+        let spot = self.spot(first);
+        let was = self.stretch_from(before, first, spot);
         let end = was.end.min(limit);
         if was.change.rights == change.rights {
             return Ok(Replaced {
@@ -222,7 +255,7 @@ impl OwnChanges {
             });
         }
         let had_some = self.has_some(before, first, was.change.rights);
-        self.write(alloc, before, first, end, was.change, change)?;
+        self.write(alloc, spot, before, first, end, was.change, change)?;
         Ok(Replaced {
             end,
             had_some: Some(had_some),
