@@ -8,7 +8,7 @@ ghost use Rattle.mapdb_lines.specs.Shown.{frame_text, last_digits, name_text, sp
 
 use itoa::Buffer;
 use mapdb_facts::{RecordId, Space};
-use mapdb_fpage::Rights;
+use mapdb_fpage::{Right, Rights};
 use std::alloc::{AllocError, Global};
 
 /// Writes a number behind a text, in decimal digits. The only error is that memory ran out; nothing
@@ -116,7 +116,10 @@ pub fn frame_text(alloc: Global, frame: u64) -> Result<String, AllocError>
 fn letters_of(rights: Rights) -> &'static str
     ensures { result.now ≡ text_of rights }
 {
-    match (rights.read, rights.write, rights.execute) {
+    let read = rights.has(Right::Read);
+    let write = rights.has(Right::Write);
+    let execute = rights.has(Right::Execute);
+    match (read, write, execute) {
         (true, true, true) => "rwx",
         (true, true, false) => "rw-",
         (true, false, true) => "r-x",

@@ -1,6 +1,6 @@
 -- What is cached of records at pages, and its changes: from a page of a record on these rights
 -- stand, with frames as far from the pages, up to the next change.
-use Rattle.std.specs.Prelude.{◌≡◌, ◌≢◌, ◌<◌, ◌≤◌, ◌&&◌, ◌⊎◌, ℕ, zero, suc, Bool, false, nat_le}
+use Rattle.std.specs.Prelude.{◌≡◌, ◌≢◌, ◌<◌, ◌≤◌, ◌&&◌, ◌⊎◌, ℕ, zero, suc, Bool, nat_le}
 use Rattle.std.specs.Prelude.{nat_lt, List, Option, None, Some, IsSome, if◌then◌else◌}
 use Rattle.std.specs.Map.{lookup}
 use Rattle.std.specs.Option.{unwrap_or}
@@ -88,13 +88,6 @@ pub record IsStretch (at : ℕ → Option Change) (first : Change) (page : ℕ) 
   pub above : page < stretch.end
   pub limit : stretch.end ≤ page_limit
   pub none : IsNoneUntil at page stretch.end
-
--- pages of one record were given a change, and those of the others stay
-pub record IsWritten (old : PageChanges) (id : RecordId) (first end : ℕ) (was change : Change)
-    (new : PageChanges) : Type 0 where
-  pub own : IsRewritten (change_at old id) (at_first id) first end was change (change_at new id)
-  pub others : (other : RecordId) (page : ℕ) → same_id id other ≡ false
-      → change_at new other page ≡ change_at old other page
 
 -- what the changes leave at each page of each record
 abbrev pub seen_in : PageChanges → RecordId → ℕ → Change

@@ -40,10 +40,17 @@ impl Change {
         Change { rights, shift }
     }
 
+    /// Whether there are no rights.
+    pub fn is_none(&self) -> bool
+        ensures { result ≡ is_empty self.now.rights }
+    {
+        self.rights.is_none()
+    }
+
     /// Whether both are the same.
-    pub fn is(self, other: Change) -> bool
-        ensures same { result ≡ true → self ≡ other }
-        ensures itself { self ≡ other → result ≡ true }
+    pub fn is(&self, other: &Change) -> bool
+        ensures same { result ≡ true → self.now ≡ other.now }
+        ensures itself { self.now ≡ other.now → result ≡ true }
     {
         self.rights == other.rights && self.shift == other.shift
     }
@@ -183,7 +190,7 @@ pub fn has_rights(changes: &AllChanges, id: RecordId) -> bool
 {
     let first = first_change(id);
     match changes.own.get(id) {
-        Some(own) => own.has_rights(first),
+        Some(own) => own.has_rights(&first),
         None => !first.rights.is_none(),
     }
 }
@@ -197,7 +204,7 @@ pub fn stretch_at(changes: &AllChanges, id: RecordId, page: u64) -> Stretch
 {
     let first = first_change(id);
     match changes.own.get(id) {
-        Some(own) => own.stretch(first, page),
+        Some(own) => own.stretch(&first, page),
         None => Stretch {
             change: first,
             end: PAGE_LIMIT,

@@ -104,24 +104,29 @@ impl FewChanges {
     /// What stands at a page, and how far, where this stands before any change, and so many stand
     /// at the page or in front of it.
     #[inline(always)]
-    pub(crate) fn stretch(&self, first: Change, spot: usize) -> Stretch
+    pub(crate) fn stretch(&self, first: &Change, spot: usize) -> Stretch
         requires { spot ≤ length self.now.list }
         ensures { (page : ℕ) → page < PAGE_LIMIT → IsSpot self.now.list page spot
-            → IsStretch (few_change self.now) first page result }
+            → IsStretch (few_change self.now) first.now page result }
     {
         let changes = self.list.as_slice();
         let end = end_at(changes, spot);
-        let change = match last_at(changes, spot) {
-            Some((_, rights)) => Change::with_shift(self.shift, rights),
-            None => first,
+        let Some(last) = last_at(changes, spot) else {
+            return Stretch {
+                change: *first,
+                end,
+            };
         };
-        Stretch { change, end }
+        Stretch {
+            change: Change::with_shift(self.shift, last.1),
+            end,
+        }
     }
 
     /// A list without changes takes over the shift of one with rights that comes.
     #[inline(always)]
-    fn take_shift(&mut self, change: Change)
-        ensures shift { self.new.shift ≡ shift_for self.old change }
+    fn take_shift(&mut self, change: &Change)
+        ensures shift { self.new.shift ≡ shift_for self.old change.now }
         ensures list { self.new.list ≡ self.old.list }
     {
         if self.list.is_empty() && !change.rights.is_none() {
@@ -131,20 +136,20 @@ impl FewChanges {
 
     /// Whether the list, with its shift, shows a change as it is.
     #[inline(always)]
-    fn shows(&self, change: Change) -> bool
-        ensures { IsTrue result ↔ ShowsChange self.now.shift change }
+    fn shows(&self, change: &Change) -> bool
+        ensures { IsTrue result ↔ ShowsChange self.now.shift change.now }
     {
-        change.is(Change::with_shift(self.shift, change.rights))
+        change.is(&Change::with_shift(self.shift, change.rights))
     }
 
     /// Whether the list shows a change that comes, and what stands before any change, as they are,
     /// with one shift: its own, or that of the one that comes, where it has none yet.
     #[inline(always)]
-    pub(crate) fn takes(&mut self, before: Change, change: Change) -> bool
-        ensures shift { self.new.shift ≡ shift_for self.old change }
+    pub(crate) fn takes(&mut self, before: &Change, change: &Change) -> bool
+        ensures shift { self.new.shift ≡ shift_for self.old change.now }
         ensures list { self.new.list ≡ self.old.list }
-        ensures shown { IsTrue result ↔ (ShowsChange self.new.shift before
-            × ShowsChange self.new.shift change) }
+        ensures shown { IsTrue result ↔ (ShowsChange self.new.shift before.now
+            × ShowsChange self.new.shift change.now) }
     {
         self.take_shift(change);
         self.shows(before) && self.shows(change)

@@ -39,14 +39,17 @@ pub(crate) fn many_next(map: &BTreeMap<u64, Change>, page: u64) -> u64
 }
 
 /// What stands at a page, and how far, where this stands before any change.
-pub(crate) fn many_stretch(map: &BTreeMap<u64, Change>, first: Change, page: u64) -> Stretch
+pub(crate) fn many_stretch(map: &BTreeMap<u64, Change>, first: &Change, page: u64) -> Stretch
     requires { page < PAGE_LIMIT }
-    ensures { IsStretch (mapped_change map.now) first page result }
+    ensures { IsStretch (mapped_change map.now) first.now page result }
 {
     let end = many_next(map, page);
     match many_last(map, page) {
         Some((_, change)) => Stretch { change, end },
-        None => Stretch { change: first, end },
+        None => Stretch {
+            change: *first,
+            end,
+        },
     }
 }
 
@@ -90,12 +93,12 @@ fn many_write_end(
     map: &mut BTreeMap<u64, Change>,
     end: u64,
     was: Change,
-    change: Change,
+    change: &Change,
 ) -> Result<(), AllocError>
     ensures there { OnOk result (end < PAGE_LIMIT
-        → unwrap_or (mapped_change map.new end) change
+        → unwrap_or (mapped_change map.new end) change.now
         ≡ unwrap_or (mapped_change map.old end) was) }
-    ensures once { OnOk result (end < PAGE_LIMIT → mapped_change map.old end ≡ Some change
+    ensures once { OnOk result (end < PAGE_LIMIT → mapped_change map.old end ≡ Some change.now
         → mapped_change map.new end ≡ None) }
     ensures elsewhere { OnOk result ((q : ℕ) → (end ≡ q → ⊥)
         → mapped_change map.new q ≡ mapped_change map.old q) }
@@ -127,7 +130,7 @@ fn many_write_first(
     ensures elsewhere { OnOk result ((q : ℕ) → (page ≡ q → ⊥)
         → mapped_change map.new q ≡ mapped_change map.old q) }
 {
-    if change.is(many_before(map, before, page)) {
+    if change.is(&many_before(map, before, page)) {
         many_remove(map, page);
         return Ok(());
     }
@@ -148,6 +151,6 @@ pub(crate) fn many_write(
     ensures { OnOk result (IsRewritten (mapped_change map.old) before first end was change
         (mapped_change map.new)) }
 {
-    many_write_end(map, end, was, change)?;
+    many_write_end(map, end, was, &change)?;
     many_write_first(map, before, first, change)
 }

@@ -69,10 +69,10 @@ impl OwnChanges {
 
     /// What stands at a page, whose spot this is, and how far, where this stands before any change.
     #[inline(always)]
-    fn stretch_from(&self, first: Change, page: u64, spot: usize) -> Stretch
+    fn stretch_from(&self, first: &Change, page: u64, spot: usize) -> Stretch
         requires limit { page < PAGE_LIMIT }
         requires spot { IsSpotIn self.now page spot }
-        ensures { IsStretch (own_change self.now) first page result }
+        ensures { IsStretch (own_change self.now) first.now page result }
     {
         match self {
             OwnChanges::Few(few) => few.stretch(first, spot),
@@ -82,9 +82,9 @@ impl OwnChanges {
 
     /// What stands at a page, and how far, where this stands before any change.
     #[inline(always)]
-    pub(crate) fn stretch(&self, first: Change, page: u64) -> Stretch
+    pub(crate) fn stretch(&self, first: &Change, page: u64) -> Stretch
         requires { page < PAGE_LIMIT }
-        ensures { IsStretch (own_change self.now) first page result }
+        ensures { IsStretch (own_change self.now) first.now page result }
     {
         self.stretch_from(first, page, self.spot(page))
     }
@@ -119,12 +119,12 @@ impl OwnChanges {
     /// Whether a change that comes, and what stands before any change, can be kept where the
     /// changes are now.
     #[inline(always)]
-    fn takes(&mut self, before: Change, change: Change) -> bool
+    fn takes(&mut self, before: &Change, change: &Change) -> bool
         ensures same { (page : ℕ) → own_change self.new page ≡ own_change self.old page }
         ensures spot { (page spot : ℕ) → IsSpotIn self.old page spot
             → IsSpotIn self.new page spot }
-        ensures before { IsTrue result → CanKeep self.new before }
-        ensures change { IsTrue result → CanKeep self.new change }
+        ensures before { IsTrue result → CanKeep self.new before.now }
+        ensures change { IsTrue result → CanKeep self.new change.now }
     {
         match self {
             OwnChanges::Few(few) => few.takes(before, change),
@@ -135,13 +135,13 @@ impl OwnChanges {
     /// Goes over to a map where a list cannot keep a change that comes, and what stands before any
     /// change. An error where memory ran out.
     #[inline(always)]
-    fn fit(&mut self, alloc: Global, before: Change, change: Change) -> Result<(), AllocError>
+    fn fit(&mut self, alloc: Global, before: &Change, change: &Change) -> Result<(), AllocError>
         ensures same { OnOk result ((page : ℕ)
             → own_change self.new page ≡ own_change self.old page) }
         ensures spot { OnOk result ((page spot : ℕ) → IsSpotIn self.old page spot
             → IsSpotIn self.new page spot) }
-        ensures before { OnOk result (CanKeep self.new before) }
-        ensures change { OnOk result (CanKeep self.new change) }
+        ensures before { OnOk result (CanKeep self.new before.now) }
+        ensures change { OnOk result (CanKeep self.new change.now) }
     {
         if self.takes(before, change) {
             return Ok(());
@@ -196,20 +196,20 @@ impl OwnChanges {
         ensures { OnOk result (IsRewritten (own_change self.old) before first end was change
             (own_change self.new)) }
     {
-        self.fit(alloc, before, change)?;
+        self.fit(alloc, &before, &change)?;
         self.write_there(spot, before, first, end, was, change)?;
         self.widen(alloc)
     }
 
     /// Whether there are rights at some page, where this stands before any change.
-    pub(crate) fn has_rights(&self, before: Change) -> bool
-        ensures some { result ≡ true → HasRights (own_change self.now) before }
-        ensures none { result ≡ false → HasNoRights (own_change self.now) before }
+    pub(crate) fn has_rights(&self, before: &Change) -> bool
+        ensures some { result ≡ true → HasRights (own_change self.now) before.now }
+        ensures none { result ≡ false → HasNoRights (own_change self.now) before.now }
     {
         let mut page = 0;
         'pages: while page < PAGE_LIMIT {
             let next = self.stretch(before, page);
-            if !next.change.rights.is_none() {
+            if !next.change.is_none() {
                 return true;
             }
             page = next.end;
@@ -220,11 +220,11 @@ impl OwnChanges {
     /// Whether there are rights at some page, where this stands before any change, and there are
     /// these at that page.
     #[inline(always)]
-    fn has_some(&self, before: Change, near: u64, rights: Rights) -> bool
+    fn has_some(&self, before: &Change, near: u64, rights: &Rights) -> bool
         requires limit { near < PAGE_LIMIT }
-        requires near { rights ≡ (changed (own_change self.now) before near).rights }
-        ensures some { result ≡ true → HasRights (own_change self.now) before }
-        ensures none { result ≡ false → HasNoRights (own_change self.now) before }
+        requires near { rights.now ≡ (changed (own_change self.now) before.now near).rights }
+        ensures some { result ≡ true → HasRights (own_change self.now) before.now }
+        ensures none { result ≡ false → HasNoRights (own_change self.now) before.now }
     {
         !rights.is_none() || self.has_rights(before)
     }
@@ -246,7 +246,7 @@ impl OwnChanges {
             (own_change self.new)) }
     {
         let spot = self.spot(first);
-        let was = self.stretch_from(before, first, spot);
+        let was = self.stretch_from(&before, first, spot);
         let end = was.end.min(limit);
         if was.change.rights == change.rights {
             return Ok(Replaced {
@@ -254,7 +254,7 @@ impl OwnChanges {
                 had_some: None,
             });
         }
-        let had_some = self.has_some(before, first, was.change.rights);
+        let had_some = self.has_some(&before, first, &was.change.rights);
         self.write(alloc, spot, before, first, end, was.change, change)?;
         Ok(Replaced {
             end,

@@ -45,19 +45,9 @@ fn end(number: u16) -> Command {
 
 /// The scripts of three processors.
 fn three_scripts(alloc: Global) -> Result<Vec<Vec<Command>>, AllocError> {
-    let read = Rights {
-        read: true,
-        write: false,
-        execute: false,
-    };
-    let write = Rights {
-        write: true,
-        ..read
-    };
-    let execute = Rights {
-        execute: true,
-        ..read
-    };
+    let read = Rights::new(true, false, false);
+    let write = Rights::new(true, true, false);
+    let execute = Rights::new(true, false, true);
     let mut scripts = Vec::new(alloc);
     scripts.push(Vec::from_array(alloc, [map(0x1_0000, write, 1), end(9)])?)?;
     scripts.push(Vec::from_array(alloc, [map(0x3_0000, read, 2)])?)?;

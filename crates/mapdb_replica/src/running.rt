@@ -104,9 +104,9 @@ impl Replica {
         let mut parts = Vec::new(self.alloc);
         let mut page = 0;
         'pages: while page < PAGE_LIMIT {
-            let next = self.steady_at(space, page);
-            parts.push(next)?;
-            page = next.end;
+            let SteadyPages { served, end, .. } = self.steady_at(space, page);
+            parts.push(SteadyPages { page, served, end })?;
+            page = end;
         }
         Ok(parts)
     }

@@ -14,7 +14,7 @@ fn shares(found: Option<(u64, Rights)>, rights: Rights) -> bool
     ensures { result ≡ shares found rights }
 {
     match found {
-        Some((_, held)) => !held.meet(rights).is_none(),
+        Some((_, held)) => !held.meet(&rights).is_none(),
         None => false,
     }
 }

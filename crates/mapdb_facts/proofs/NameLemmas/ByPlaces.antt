@@ -1,6 +1,6 @@
 -- What is found by a record's name among values that stand at places, with no list of the names.
 use Rattle.std.proofs.Common.{◌≡◌, ℕ, zero, suc, ◌<◌, ◌+◌, ◌-◌, List, [], ◌∷◌, ◌++◌, length, set, ap, subst, sym, ◌∙◌, refl, true, cond, inl, inr, arith}
-use Rattle.std.specs.Prelude.{Option, None, Some, ◌==◌, map, slice_get, slice_index}
+use Rattle.std.specs.Prelude.{None, Some, ◌==◌, map, slice_get, slice_index}
 use Rattle.std.specs.BTreeMap.{is_at}
 use Rattle.std.specs.Global.{Vec}
 use Rattle.std.specs.List.{list_any}

@@ -13,11 +13,11 @@ use Rattle.mapdb_facts.specs.declared.names.RecordId.{RecordId}
 use Rattle.mapdb_lists.specs.declared.changes.Change.{Change}
 use Rattle.mapdb_lists.specs.declared.changes.Replaced.{Replaced}
 use Rattle.mapdb_lists.specs.declared.changes.Stretch.{Stretch}
-use Rattle.mapdb_lists.specs.Changes.{covers, IsStretch, IsWritten, PageChanges, at_first, cached_in, change_at, changed, past_the_end, seen_in}
+use Rattle.mapdb_lists.specs.Changes.{covers, IsStretch, PageChanges, at_first, cached_in, change_at, changed, past_the_end, seen_in}
 use Rattle.mapdb_lists.specs.OwnChanges.{IsNoneUntil}
 use Rattle.mapdb_lists.specs.Replacing.{HasNoRights, HasRights, IsOutcome, IsReplacedIn, IsReplacedOf, IsSeenReplaced}
 use Rattle.mapdb_lists.proofs.ChangeLemmas.LastChanges.{changed-same, changed-stays}
-use Rattle.mapdb_lists.proofs.ChangeLemmas.Writing.{given_everywhere, seen_alike, seen_stays}
+use Rattle.mapdb_lists.proofs.ChangeLemmas.Writing.{IsWritten, given_everywhere, seen_alike, seen_stays}
 use Rattle.mapdb_lists.proofs.PlaceLemmas.Meetings.{either_way}
 
 -- over a stretch one change is left

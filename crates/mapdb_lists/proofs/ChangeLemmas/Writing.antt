@@ -9,7 +9,7 @@ use Rattle.mapdb_lists.specs.declared.changes.Stretch.{Stretch}
 use Rattle.mapdb_facts.specs.Exact.{exact_id}
 use Rattle.mapdb_facts.specs.Names.{same_id}
 use Rattle.mapdb_facts.specs.declared.names.RecordId.{RecordId}
-use Rattle.mapdb_lists.specs.Changes.{covers, PageChanges, IsStretch, IsWritten, at_first, past_the_end, seen_in, change_at, changed}
+use Rattle.mapdb_lists.specs.Changes.{covers, PageChanges, IsRewritten, IsStretch, at_first, past_the_end, seen_in, change_at, changed}
 use Rattle.mapdb_lists.proofs.ChangeLemmas.LastChanges.{changed-here, changed-same, changed-stays, given_before, given_behind, given_inside}
 use Rattle.mapdb_facts.proofs.Lists.SameNames.{same_id_itself}
 
@@ -48,6 +48,11 @@ stretch_seen changes id page stretch h q from before =
     seen_stays changes id page q from (omega arith) (λ p after up_to. h.none p after (omega arith))
     ∙ cond-true (is_page page) (changed (change_at changes id) (at_first id) page) past_the_end (lt-ltb page page_limit (omega arith))
     ∙ sym h.seen
+
+-- pages of one record were given a change, and those of the others stay
+pub record IsWritten (old : PageChanges) (id : RecordId) (first end : ℕ) (was change : Change) (new : PageChanges) : Type 0 where
+  pub own : IsRewritten (change_at old id) (at_first id) first end was change (change_at new id)
+  pub others : (other : RecordId) (page : ℕ) → same_id id other ≡ false → change_at new other page ≡ change_at old other page
 
 -- Pages over which one change stood are given another.
 module _ (old new : PageChanges) (id : RecordId) (first end : ℕ) (was change : Change) (written : IsWritten old id first end was change new)

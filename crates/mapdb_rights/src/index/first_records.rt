@@ -45,7 +45,7 @@ fn both(other: RecordId, seen: Change, id: RecordId, change: Change) -> First
     ensures { result ≡ both_of other seen id change }
 {
     let first = if id.is_before(other) { id } else { other };
-    let rights = seen.rights.union(change.rights);
+    let rights = seen.rights.union(&change.rights);
     First::Alike(first, Change { rights, ..seen })
 }
 
@@ -83,7 +83,7 @@ pub(crate) fn root_first(
         return First::Nothing;
     }
     let change = seen_at(changes, RecordId::ROOT, page);
-    if change.rights.is_none() {
+    if change.is_none() {
         return First::Nothing;
     }
     First::Alike(RecordId::ROOT, change)
@@ -106,7 +106,7 @@ fn with_record(
         (seen_in changes.now.own.entries id page) found }
 {
     let change = seen_at(changes, id, page);
-    if change.rights.is_none() {
+    if change.is_none() {
         return found;
     }
     found.with(id, change)

@@ -75,13 +75,14 @@ fn with_place(
         };
     }
     let own = stretch_at(changes, place.id, page);
-    let first = if own.change.rights.is_none() {
-        found
-    } else {
-        found.with(place.id, own.change)
-    };
+    if own.change.is_none() {
+        return FirstUntil {
+            first: found,
+            end: own.end,
+        };
+    }
     FirstUntil {
-        first,
+        first: found.with(place.id, own.change),
         end: own.end,
     }
 }

@@ -23,7 +23,7 @@ fn with_record(known: Rights, changes: &AllChanges, page: u64, shift: u64, id: R
 {
     let change = seen_at(changes, id, page);
     if change.shift == shift {
-        known.union(change.rights)
+        known.union(&change.rights)
     } else {
         known
     }

@@ -102,8 +102,8 @@ pub(crate) fn runs_of(
     let mut runs = Vec::new(alloc);
     let mut page = 0;
     'runs: while let Some(run) = first_run(changes, id, page) {
-        runs.push(run)?;
         page = run.first_page + run.page_count;
+        runs.push(run)?;
     }
     Ok(runs)
 }

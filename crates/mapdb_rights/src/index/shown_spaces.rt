@@ -137,9 +137,10 @@ impl RightsIndex {
         let mut shown = Vec::new(self.alloc);
         let mut page = 0;
         'pages: while page < PAGE_LIMIT {
-            let next = self.next_shown(&mut walk, places.as_slice(), facts, space, page)?;
-            shown.push(next)?;
-            page = next.end;
+            let shows = self.next_shown(&mut walk, places.as_slice(), facts, space, page)?;
+            let SteadyPages { served, end, .. } = shows;
+            shown.push(SteadyPages { page, served, end })?;
+            page = end;
         }
         Ok(Some(shown))
     }

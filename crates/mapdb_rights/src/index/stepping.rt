@@ -41,7 +41,7 @@ fn root_given(facts: &Facts, id: RecordId, page: u64) -> Stretch
 {
     let (taken, end) = taken_at(facts, id, page);
     let change = Change {
-        rights: Rights::ALL.without(taken),
+        rights: Rights::ALL.without(&taken),
         shift: PAGE_LIMIT,
     };
     Stretch { change, end }
@@ -63,7 +63,7 @@ fn child_given(changes: &AllChanges, facts: &Facts, mapping: &Record, page: u64)
     let source = source_of(mapping, page);
     let up = stretch_at(changes, mapping.parent, source);
     let (taken, taken_end) = taken_at(facts, mapping.id, page);
-    let rights = mapping.rights.meet(up.change.rights).without(taken);
+    let rights = mapping.rights.meet(&up.change.rights).without(&taken);
     let shift = up.change.shift.saturating_add(source).saturating_sub(page);
     let change = Change::with_shift(shift, rights);
     let place_end = mapping.place.change_after(page);

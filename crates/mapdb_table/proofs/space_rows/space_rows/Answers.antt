@@ -1,5 +1,4 @@
-use Rattle.std.proofs.Common.{◌∙◌, ◌++◌, ◌-◌, ◌∷◌, [], List, ap, append_assoc, drop, get_or, sym}
-use Rattle.std.specs.Prelude.{None}
+use Rattle.std.proofs.Common.{◌∙◌, ◌++◌, ◌-◌, ◌∷◌, [], List, ap, append_assoc, drop, subst, sym}
 use Rattle.mapdb_replica.specs.Pairs.{Pair}
 use Rattle.mapdb_replica.specs.Served.{served}
 use Rattle.mapdb_rights.specs.declared.index.served_pages.SteadyPages.{SteadyPages}
@@ -12,14 +11,14 @@ pub runs-preserved-in_ok-push : goal.runs-preserved-in_ok-push
 runs-preserved-in_ok-push c =
     let f = served c.args.copy.now.ops c.args.space in
     let parts = c.as_slice-parts.result.now in
-    let none : SteadyPages = record { page = 0; served = None; end = 0 } in
-    let first = get_or parts c.runs.place none in
+    let first = c.index-parts-place.result in
     let end = c.run_from-run.result.end in
     let behind = c.run_from-run.result.behind in
     let pair : Pair = (c.in-Some.frame, c.in-Some.rights) in
     let row : TableRow = row_of c.args.space first.page (end - first.page) pair in
     let run : NextRun f parts c.runs.place first end behind =
-    next_run f parts c.runs.place none end behind c.runs-test.true (c.run_from-run.ensures.run f) (c.run_from-run.ensures.rest f) c.runs.invariant.parts in
+    subst (λ (part : SteadyPages). NextRun f parts c.runs.place part end behind) (sym c.index-parts-place.is)
+    (next_run f parts c.runs.place first end behind c.runs-test.true (c.run_from-run.ensures.run f) (c.run_from-run.ensures.rest f) c.runs.invariant.parts) in
     record {
       rows =
           ap (λ (rows : List TableRow). rows ++ rows_behind f c.args.space (begins (drop behind parts))) c.in_ok-push.ensures.items
@@ -34,12 +33,12 @@ pub runs-preserved : goal.runs-preserved
 runs-preserved c =
     let f = served c.args.copy.now.ops c.args.space in
     let parts = c.as_slice-parts.result.now in
-    let none : SteadyPages = record { page = 0; served = None; end = 0 } in
-    let first = get_or parts c.runs.place none in
+    let first = c.index-parts-place.result in
     let end = c.run_from-run.result.end in
     let behind = c.run_from-run.result.behind in
     let run : NextRun f parts c.runs.place first end behind =
-    next_run f parts c.runs.place none end behind c.runs-test.true (c.run_from-run.ensures.run f) (c.run_from-run.ensures.rest f) c.runs.invariant.parts in
+    subst (λ (part : SteadyPages). NextRun f parts c.runs.place part end behind) (sym c.index-parts-place.is)
+    (next_run f parts c.runs.place first end behind c.runs-test.true (c.run_from-run.ensures.run f) (c.run_from-run.ensures.rest f) c.runs.invariant.parts) in
     record {
       rows =
           ap (λ (rows : List TableRow). c.runs.rows.items ++ rows)

@@ -1,8 +1,9 @@
-use Rattle.std.proofs.Common.{rules}
+use Rattle.std.proofs.Common.{bit_and, refl, ◌∙◌}
+use Rattle.mapdb_fpage.specs.RightBits.{sets_agree}
+use Rattle.mapdb_fpage.specs.RightSets.{common}
 use Rattle.mapdb_fpage.proofs.right_sets.Rights.meet.Goals as goal
 
-pub returns-then-self-3 : goal.returns-then-self-3
-returns-then-self-3 c = search rules
-
-pub returns-else-self-3 : goal.returns-else-self-3
-returns-else-self-3 c = search rules
+pub returns : goal.returns
+returns c =
+    sets_agree (λ a b. bit_and a b) common refl c.self.inside.bits c.other.inside.bits c.self.invariant c.other.invariant
+    ∙ (λ i. common (c.self.view_is i) (c.other.view_is i))

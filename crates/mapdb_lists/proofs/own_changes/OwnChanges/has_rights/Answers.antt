@@ -9,7 +9,7 @@ use Rattle.mapdb_lists.proofs.own_changes.OwnChanges.has_rights.Goals as goal
 pub pages-preserved : goal.pages-preserved
 pages-preserved c q to = elim (either_way c.pages.page q) [
   | inl behind ↦ ap (λ (change : Change). is_empty change.rights)
-      (stretch_left (own_change c.args.self.now) c.args.before c.pages.page c.stretch-next.result c.stretch-next.ensures q behind to)
+      (stretch_left (own_change c.args.self.now) c.args.before.now c.pages.page c.stretch-next.result c.stretch-next.ensures q behind to)
       ∙ sym c.is_none.ensures ∙ c.if-not-is_none.false
   | inr before ↦ c.pages.invariant q (omega (arith, before))
 ]

@@ -12,12 +12,12 @@ pub returns-then-is_none-clause-same : goal.returns-then-is_none-clause-same
 returns-then-is_none-clause-same c meeting =
     stretch_stays c.args.changes.now.own.entries c.args.place.id c.args.page c.stretch_at-own.result c.stretch_at-own.ensures
 
-pub returns-else-is_none-clause-first : goal.returns-else-is_none-clause-first
-returns-else-is_none-clause-first c =
-    c.with-first.ensures
+pub returns-clause-first : goal.returns-clause-first
+returns-clause-first c =
+    c.with.ensures
     ∙ found_with (state_of_facts c.args.facts.now) c.args.live.now c.requires.stands.live_there c.args.space c.args.page c.args.place c.requires.listed
     c.args.changes.now.own.entries c.args.found c.stretch_at-own.result c.requires.stands.rights c.stretch_at-own.ensures (sym c.is_none.ensures ∙ c.if-is_none.false)
 
-pub returns-else-is_none-clause-same : goal.returns-else-is_none-clause-same
-returns-else-is_none-clause-same c meeting =
+pub returns-clause-same : goal.returns-clause-same
+returns-clause-same c meeting =
     stretch_stays c.args.changes.now.own.entries c.args.place.id c.args.page c.stretch_at-own.result c.stretch_at-own.ensures
