@@ -2,8 +2,11 @@
 use Rattle.std.specs.Prelude.{◌≡◌, Bool, true, ◌&&◌}
 use Rattle.std.proofs.Common.{ap, sym}
 use Rattle.std.proofs.lemmas.Bool.{and_parts, true≢false}
-use Rattle.mapdb_facts.specs.Adding.{same_place, same_rights}
-use Rattle.mapdb_facts.specs.Exact.{exact_id, exact_place, exact_record, exact_rights, exact_space}
+use Rattle.mapdb_fpage.specs.Place.{same_place}
+use Rattle.mapdb_fpage.specs.SamePlaces.{exact_place}
+use Rattle.mapdb_fpage.specs.RightSets.{same_rights}
+use Rattle.mapdb_facts.specs.Exact.{exact_id, exact_record, exact_space}
+use Rattle.mapdb_fpage.specs.RightBits.{exact_rights}
 use Rattle.mapdb_facts.specs.Names.{same_id}
 use Rattle.mapdb_facts.specs.contracts.operations.OpPartialEq.TheImpl as compared
 use Rattle.mapdb_facts.specs.declared.operations.Op.{Op}

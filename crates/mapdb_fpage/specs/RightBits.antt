@@ -4,12 +4,12 @@ use Rattle.std.specs.Prelude.{◌&&◌, ◌⊎◌}
 use Rattle.std.specs.Bool.{beq}
 use Rattle.std.specs.Cmp.{IsEquivalence}
 use Rattle.std.proofs.lemmas.Bool.{and_from, and_parts, eqb-true, false≢true}
-use Rattle.mapdb_fpage.specs.RightSets.{bits_of, is_same, low_rights}
+use Rattle.mapdb_fpage.specs.RightSets.{bits_of, same_rights, low_rights}
 use Rattle.mapdb_fpage.specs.declared.right_sets.Rights.{Rights}
 
 -- ---- equal sets
 
-beq_itself : (a : Bool) → beq a a ≡ true
+pub beq_itself : (a : Bool) → beq a a ≡ true
 beq_itself true = refl
 beq_itself false = refl
 
@@ -19,27 +19,27 @@ beq_back true false = refl
 beq_back false true = refl
 beq_back false false = refl
 
-pub beq_exact : (a b : Bool) → beq a b ≡ true → a ≡ b
-beq_exact true true h = refl
-beq_exact true false h = absurd (false≢true h)
-beq_exact false true h = absurd (false≢true h)
-beq_exact false false h = refl
+pub exact_bool : (a b : Bool) → beq a b ≡ true → a ≡ b
+exact_bool true true h = refl
+exact_bool true false h = absurd (false≢true h)
+exact_bool false true h = absurd (false≢true h)
+exact_bool false false h = refl
 
-same_itself : (a : Rights) → is_same a a ≡ true
-same_itself a = and_from (beq a.read a.read) _ (beq_itself a.read) (and_from (beq a.write a.write) (beq a.execute a.execute) (beq_itself a.write) (beq_itself a.execute))
+pub same_rights_itself : (a : Rights) → same_rights a a ≡ true
+same_rights_itself a = and_from (beq a.read a.read) _ (beq_itself a.read) (and_from (beq a.write a.write) (beq a.execute a.execute) (beq_itself a.write) (beq_itself a.execute))
 
 -- sets that are the same are equal
-pub same_exact : (a b : Rights) → is_same a b ≡ true → a ≡ b
-same_exact a b h =
+pub exact_rights : (a b : Rights) → same_rights a b ≡ true → a ≡ b
+exact_rights a b h =
     let front = and_parts (beq a.read b.read) (beq a.write b.write && beq a.execute b.execute) h in
     let back = and_parts (beq a.write b.write) (beq a.execute b.execute) front.1 in
-    λ i. record { read = beq_exact a.read b.read front.0 i; write = beq_exact a.write b.write back.0 i; execute = beq_exact a.execute b.execute back.1 i }
+    λ i. record { read = exact_bool a.read b.read front.0 i; write = exact_bool a.write b.write back.0 i; execute = exact_bool a.execute b.execute back.1 i }
 
-pub same_equivalence : IsEquivalence is_same
+pub same_equivalence : IsEquivalence same_rights
 same_equivalence = record {
-  refl = same_itself;
+  refl = same_rights_itself;
   symm = λ a b. λ i. beq_back a.read b.read i && (beq_back a.write b.write i && beq_back a.execute b.execute i);
-  congr = λ a b c h. ap (λ (x : Rights). is_same x c) (same_exact a b h);
+  congr = λ a b c h. ap (λ (x : Rights). same_rights x c) (exact_rights a b h);
 }
 
 -- ---- numbers below 8
@@ -73,8 +73,8 @@ bits_come_back bits below = eqb-true (bits_of (low_rights bits)) bits (each_pass
 
 -- an operation on bits whose sets are those of an operation on sets
 pub sets_agree : (on_bits : ℕ → ℕ → ℕ) (on_sets : Rights → Rights → Rights)
-    → all_below 8 (λ a. all_below 8 (λ b. is_same (low_rights (on_bits a b)) (on_sets (low_rights a) (low_rights b)))) ≡ true
+    → all_below 8 (λ a. all_below 8 (λ b. same_rights (low_rights (on_bits a b)) (on_sets (low_rights a) (low_rights b)))) ≡ true
     → (a b : ℕ) → a < 8 → b < 8 → low_rights (on_bits a b) ≡ on_sets (low_rights a) (low_rights b)
 sets_agree on_bits on_sets all a b below within =
-    same_exact (low_rights (on_bits a b)) (on_sets (low_rights a) (low_rights b))
-    (pairs_pass (λ a b. is_same (low_rights (on_bits a b)) (on_sets (low_rights a) (low_rights b))) all a b below within)
+    exact_rights (low_rights (on_bits a b)) (on_sets (low_rights a) (low_rights b))
+    (pairs_pass (λ a b. same_rights (low_rights (on_bits a b)) (on_sets (low_rights a) (low_rights b))) all a b below within)

@@ -7,3 +7,4 @@ pub mod Writing
 pub mod Replacing
 pub mod MovedChanges
 pub mod SharedShift
+pub mod SomeRights

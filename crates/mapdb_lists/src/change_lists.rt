@@ -1,6 +1,10 @@
 //! Rights of a record by page in a list in ascending order of page, found by halving it.
 
-ghost use Rattle.std.specs.Prelude.{◌≡◌, ◌≤◌, ◌<◌, ℕ, IfErr, IfOk, get_or, length};
+ghost use Rattle.std.specs.Prelude.{◌≡◌, ◌≤◌, ◌<◌, ℕ, false, true, Some, IfErr, IfOk, get_or};
+ghost use Rattle.std.specs.Prelude.{◌&&◌, length, nat_lt, not};
+ghost use Rattle.mapdb_fpage.specs.Bounds.{page_limit};
+ghost use Rattle.mapdb_fpage.specs.RightSets.{is_empty};
+ghost use Rattle.mapdb_fpage.specs.declared.right_sets.Rights.{Rights};
 ghost use Rattle.mapdb_lists.specs.FewChanges.{listed_rights, shown};
 ghost use Rattle.mapdb_lists.specs.OwnChanges.{IsLastUpTo, IsNoneUntil, mapped_change};
 ghost use Rattle.mapdb_lists.specs.PageOrder.{IsGap, IsSpot, PagesRise, StandsAtPage};
@@ -70,6 +74,30 @@ pub(crate) fn list_next(list: &[PageRights], page: u64) -> u64
 {
     let spot = spot_of(list, page);
     end_at(list, spot)
+}
+
+/// Whether a change is at a page of the space and has rights.
+fn has_some(next: &PageRights) -> bool
+    ensures { result ≡ (nat_lt next.now.page page_limit && not (is_empty next.now.rights)) }
+{
+    next.page < PAGE_LIMIT && !next.rights.is_none()
+}
+
+/// Whether one of the changes, at a page of the space, has rights.
+#[inline(always)]
+pub(crate) fn any_rights(list: &[PageRights]) -> bool
+    requires { PagesRise list.now }
+    ensures some { result ≡ true → (page : ℕ) × (rights : Rights) × (page < PAGE_LIMIT)
+        × (listed_rights list.now page ≡ Some rights) × (is_empty rights ≡ false) }
+    ensures none { result ≡ false → (page : ℕ) (rights : Rights) → page < PAGE_LIMIT
+        → listed_rights list.now page ≡ Some rights → is_empty rights ≡ true }
+{
+    for next in list {
+        if has_some(next) {
+            return true;
+        }
+    }
+    false
 }
 
 /// Where the change at a page stands, or else where one belongs: so many stand at the page or in

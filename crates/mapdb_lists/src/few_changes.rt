@@ -1,6 +1,6 @@
 //! A few changes of a record, in ascending order of page, with one shift for all of them.
 
-use crate::change_lists::{end_at, last_at, list_last, list_next, map_of, spot_of};
+use crate::change_lists::{any_rights, end_at, last_at, list_last, list_next, map_of, spot_of};
 use crate::changes::{Change, Stretch};
 use crate::list_writes::list_write;
 use mapdb_fpage::{PAGE_LIMIT, Rights};
@@ -49,12 +49,13 @@ impl Model for FewChanges {
 }
 
 impl FewChanges {
-    ghost use Rattle.std.specs.Prelude.{◌≡◌, ◌≤◌, ◌<◌, ◌↔◌, ℕ, [], IfOk, IsTrue, OnOk};
+    ghost use Rattle.std.specs.Prelude.{◌≡◌, ◌≤◌, ◌<◌, ◌↔◌, ℕ, [], false, true, IfOk, IsTrue, OnOk};
     ghost use Rattle.std.specs.Prelude.{length};
     ghost use Rattle.mapdb_lists.specs.Changes.{IsRewritten, IsStretch, changed};
     ghost use Rattle.mapdb_lists.specs.FewChanges.{ShowsChange, few_change, shift_for};
     ghost use Rattle.mapdb_lists.specs.OwnChanges.{IsLastUpTo, IsNoneUntil, mapped_change};
     ghost use Rattle.mapdb_lists.specs.PageOrder.{IsSpot};
+    ghost use Rattle.mapdb_lists.specs.Replacing.{HasNoRights, HasRights};
 
     /// No changes. It takes no memory.
     pub(crate) fn new(alloc: Global) -> FewChanges
@@ -121,6 +122,19 @@ impl FewChanges {
             change: Change::with_shift(self.shift, last.1),
             end,
         }
+    }
+
+    /// Whether there are rights at some page, where this stands before any change.
+    #[inline(always)]
+    pub(crate) fn has_rights(&self, before: &Change) -> bool
+        ensures some { result ≡ true → HasRights (few_change self.now) before.now }
+        ensures none { result ≡ false → HasNoRights (few_change self.now) before.now }
+    {
+        let changes = self.list.as_slice();
+        if !before.is_none() && end_at(changes, 0) > 0 {
+            return true;
+        }
+        any_rights(changes)
     }
 
     /// A list without changes takes over the shift of one with rights that comes.

@@ -1,10 +1,11 @@
 //! Many changes of a record, found in their order.
 
-ghost use Rattle.std.specs.Prelude.{◌≡◌, ◌≤◌, ◌<◌, ℕ, Some, None, OnOk, nat_eq};
+ghost use Rattle.std.specs.Prelude.{◌≡◌, ◌≤◌, ◌<◌, ℕ, false, true, Some, None, OnOk, nat_eq};
 ghost use Rattle.std.specs.Prelude.{if◌then◌else◌};
 ghost use Rattle.std.specs.Option.{unwrap_or};
 ghost use Rattle.mapdb_lists.specs.Changes.{IsRewritten, IsStretch, left_before};
 ghost use Rattle.mapdb_lists.specs.OwnChanges.{IsLastUpTo, IsNoneUntil, mapped_change};
+ghost use Rattle.mapdb_lists.specs.Replacing.{HasNoRights, HasRights};
 
 use crate::changes::{Change, Stretch};
 use mapdb_fpage::PAGE_LIMIT;
@@ -51,6 +52,22 @@ pub(crate) fn many_stretch(map: &BTreeMap<u64, Change>, first: &Change, page: u6
             end,
         },
     }
+}
+
+/// Whether there are rights at some page, where this stands before any change.
+pub(crate) fn many_rights(map: &BTreeMap<u64, Change>, before: &Change) -> bool
+    ensures some { result ≡ true → HasRights (mapped_change map.now) before.now }
+    ensures none { result ≡ false → HasNoRights (mapped_change map.now) before.now }
+{
+    let mut page = 0;
+    'pages: while page < PAGE_LIMIT {
+        let next = many_stretch(map, before, page);
+        if !next.change.is_none() {
+            return true;
+        }
+        page = next.end;
+    }
+    false
 }
 
 /// Puts a change, in place of one that stands at its page. An error where memory ran out.

@@ -10,7 +10,7 @@ ghost use Rattle.mapdb_lists.specs.declared.changes.Change.{Change};
 use crate::changes::{Change, Replaced, Stretch};
 use crate::few_changes::FewChanges;
 use crate::limits::FEW_CHANGES;
-use crate::many_changes::{many_last, many_next, many_stretch, many_write};
+use crate::many_changes::{many_last, many_next, many_rights, many_stretch, many_write};
 use mapdb_fpage::{PAGE_LIMIT, Rights};
 use std::alloc::{AllocError, Global};
 use std::collections::BTreeMap;
@@ -206,15 +206,10 @@ impl OwnChanges {
         ensures some { result ≡ true → HasRights (own_change self.now) before.now }
         ensures none { result ≡ false → HasNoRights (own_change self.now) before.now }
     {
-        let mut page = 0;
-        'pages: while page < PAGE_LIMIT {
-            let next = self.stretch(before, page);
-            if !next.change.is_none() {
-                return true;
-            }
-            page = next.end;
+        match self {
+            OwnChanges::Few(few) => few.has_rights(before),
+            OwnChanges::Many(map) => many_rights(map, before),
         }
-        false
     }
 
     /// Whether there are rights at some page, where this stands before any change, and there are

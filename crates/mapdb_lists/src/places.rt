@@ -109,6 +109,7 @@ impl Places {
     }
 
     /// The places of an owner, where it has some: a walk over them looks them up once.
+    #[inline(always)]
     pub fn own(&self, owner: Owner) -> Option<&OwnPlaces>
         ensures { places_in (option_copied result) ≡ owner_places self.now owner }
     {

@@ -2,7 +2,7 @@
 use Rattle.std.specs.Prelude.{◌≡◌, ℕ, Bool, true, false, ◌+◌, ◌-◌, ◌<◌, ◌≤◌, ◌==◌, ◌&&◌, Option}
 use Rattle.std.specs.Prelude.{Some, None}
 use Rattle.mapdb_fpage.specs.Bounds.{page_limit}
-use Rattle.mapdb_facts.specs.Adding.{same_rights}
+use Rattle.mapdb_fpage.specs.RightSets.{same_rights}
 use Rattle.mapdb_replica.specs.Pairs.{Pair}
 use Rattle.mapdb_rights.specs.declared.index.served_pages.SteadyPages.{SteadyPages}
 

@@ -4,7 +4,7 @@ use Rattle.mapdb_fpage.specs.Bounds.{page_limit}
 use Rattle.mapdb_fpage.specs.Place.{holds}
 use Rattle.mapdb_fpage.specs.RightSets.{includes, is_empty, rights_where}
 use Rattle.mapdb_fpage.specs.declared.right_sets.Rights.{Rights}
-use Rattle.mapdb_facts.specs.Adding.{same_rights}
+use Rattle.mapdb_fpage.specs.RightSets.{same_rights}
 use Rattle.mapdb_facts.specs.Names.{same_id, same_space}
 use Rattle.mapdb_facts.specs.State.{State, join, said}
 use Rattle.mapdb_facts.specs.declared.names.RecordId.{RecordId}

@@ -14,6 +14,7 @@ pub(crate) struct Issued {
 }
 
 /// The command that a line is, if it is one.
+#[inline(always)]
 pub(crate) fn command_of(line: &Line<'_>) -> Option<Issued>
     ensures { result ≡ command_of line.now }
 {

@@ -6,14 +6,14 @@ use Rattle.std.proofs.lemmas.Bool.{and_from, and_parts, cond_both, eq-eqb, eqb-t
 use Rattle.std.proofs.lemmas.Bool.Decides.{nat_tests}
 use Rattle.mapdb_fpage.specs.Bounds.{page_limit}
 use Rattle.mapdb_fpage.specs.declared.right_sets.Rights.{Rights}
-use Rattle.mapdb_facts.specs.Adding.{same_rights}
-use Rattle.mapdb_facts.specs.Exact.{exact_rights}
+use Rattle.mapdb_fpage.specs.RightSets.{same_rights}
+use Rattle.mapdb_fpage.specs.RightBits.{exact_rights}
 use Rattle.mapdb_facts.specs.Names.{is_space_before}
 use Rattle.mapdb_facts.specs.Records.{IsAscending, records_of}
 use Rattle.mapdb_facts.specs.Spaces.{numbered}
 use Rattle.mapdb_facts.specs.declared.names.Space.{Space}
 use Rattle.mapdb_facts.specs.declared.operations.Op.{Op}
-use Rattle.mapdb_facts.proofs.Lists.RunLists.{same_rights_itself}
+use Rattle.mapdb_fpage.specs.RightBits.{same_rights_itself}
 use Rattle.mapdb_replica.specs.Pairs.{Pair}
 use Rattle.mapdb_replica.specs.Served.{served}
 use Rattle.mapdb_table.specs.Maximal.{AreMaximal, EndsThere, GoesOnIn}

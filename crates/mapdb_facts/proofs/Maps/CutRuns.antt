@@ -12,14 +12,16 @@ use Rattle.mapdb_fpage.specs.declared.right_sets.Rights.{Rights}
 use Rattle.mapdb_join.specs.Bits.{has_bit}
 use Rattle.mapdb_join.specs.Runs.{IsLeastRun, bits_after, has_at}
 use Rattle.mapdb_join.specs.declared.runs.starts.Start.{Start}
-use Rattle.mapdb_facts.specs.Adding.{cut_at, same_rights}
-use Rattle.mapdb_facts.specs.Exact.{exact_rights}
+use Rattle.mapdb_facts.specs.Adding.{cut_at}
+use Rattle.mapdb_fpage.specs.RightSets.{same_rights}
+use Rattle.mapdb_fpage.specs.RightBits.{exact_rights}
 use Rattle.mapdb_facts.specs.Kept.{Cuts, bit_of, cut_in, id_cmp, rights_of_byte}
 use Rattle.mapdb_facts.specs.Runs.{BeginsFrom, ComesFirst, IsLeastCutRun, IsRunFrom, cut_runs, rights_by, runs_from}
 use Rattle.mapdb_facts.specs.State.{State}
 use Rattle.mapdb_facts.specs.declared.names.RecordId.{RecordId}
 use Rattle.mapdb_facts.specs.declared.runs.CutRun.{CutRun}
-use Rattle.mapdb_facts.proofs.Lists.RunLists.{run_to, same_rights_itself, skip_from, skip_to}
+use Rattle.mapdb_facts.proofs.Lists.RunLists.{run_to, skip_from, skip_to}
+use Rattle.mapdb_fpage.specs.RightBits.{same_rights_itself}
 
 -- equal answers for each right are equal rights
 pub same_where : (f g : Right → Bool) → ((right : Right) → f right ≡ g right) → rights_where f ≡ rights_where g

@@ -6,9 +6,9 @@ use Rattle.mapdb_lists.specs.Changes.{IsRewritten, left_before}
 use Rattle.std.specs.Prelude.{Option, nat_eq, if◌then◌else◌}
 use Rattle.std.proofs.lemmas.Bool.{cases_Bool, cond-false, cond-true, eq-eqb, eqb-true}
 use Rattle.mapdb_fpage.specs.declared.right_sets.Rights.{Rights}
-use Rattle.mapdb_facts.specs.Adding.{same_rights}
-use Rattle.mapdb_facts.specs.Exact.{exact_rights}
-use Rattle.mapdb_facts.proofs.Lists.RunLists.{same_rights_itself}
+use Rattle.mapdb_fpage.specs.RightSets.{same_rights}
+use Rattle.mapdb_fpage.specs.RightBits.{exact_rights}
+use Rattle.mapdb_fpage.specs.RightBits.{same_rights_itself}
 
 module _ {V : Type 0} (old new : ℕ → Option V) (page : ℕ) (put : Option V) (is : (q : ℕ) → new q ≡ (if nat_eq page q then put else old q)) where
   pub put_here : new page ≡ put

@@ -5,8 +5,8 @@ use Rattle.std.proofs.lemmas.Bool.{and_parts, cases_Bool, cond-true, eqb-true, f
 use Rattle.std.proofs.lemmas.Bool.Decides.{nat_tests}
 use Rattle.mapdb_fpage.specs.RightSets.{is_empty, union}
 use Rattle.mapdb_fpage.specs.declared.right_sets.Rights.{Rights}
-use Rattle.mapdb_facts.specs.Adding.{same_rights}
-use Rattle.mapdb_facts.specs.Exact.{exact_rights}
+use Rattle.mapdb_fpage.specs.RightSets.{same_rights}
+use Rattle.mapdb_fpage.specs.RightBits.{exact_rights}
 use Rattle.mapdb_facts.specs.Records.{IsAmong, records_of}
 use Rattle.mapdb_facts.specs.State.{State, state_of}
 use Rattle.mapdb_facts.specs.WellFormed.{all_formed}

@@ -34,6 +34,13 @@ use Rattle.mapdb_rights.proofs.Lists.Passing.{among_filter, ascending_filter, fi
 
 -- ---- names
 
+-- one name is in order, and so is none
+pub few_in_order : (names : List RecordId) → length names < 2 → IsStrictlySortedBy id_cmp names
+unfolding IsStrictlySortedBy
+few_in_order [] few = tt
+few_in_order (id ∷ []) few = (tt, tt)
+few_in_order (id ∷ other ∷ more) few = let no : ⊥ = omega (arith, few) in absurd no
+
 abbrev pub itself : RecordId → RecordId
 itself id = id
 

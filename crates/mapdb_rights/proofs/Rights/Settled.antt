@@ -8,8 +8,8 @@ use Rattle.mapdb_fpage.specs.Place.{is_page}
 use Rattle.mapdb_fpage.specs.RightSets.{includes, rights_where}
 use Rattle.mapdb_fpage.specs.declared.right_sets.Right.{Right}
 use Rattle.mapdb_fpage.specs.declared.right_sets.Right.TheVariants.{Read, Write, Execute}
-use Rattle.mapdb_facts.specs.Adding.{same_rights}
-use Rattle.mapdb_facts.specs.Exact.{exact_rights}
+use Rattle.mapdb_fpage.specs.RightSets.{same_rights}
+use Rattle.mapdb_fpage.specs.RightBits.{exact_rights}
 use Rattle.mapdb_facts.specs.Names.{is_root}
 use Rattle.mapdb_facts.specs.State.{State}
 use Rattle.mapdb_facts.specs.declared.names.RecordId.{RecordId}

@@ -9,7 +9,7 @@ use Rattle.mapdb_fpage.specs.Bounds.{page_limit}
 use Rattle.mapdb_fpage.specs.Place.{holds}
 use Rattle.mapdb_fpage.specs.RightSets.{no_rights}
 use Rattle.mapdb_fpage.specs.declared.right_sets.Rights.{Rights}
-use Rattle.mapdb_facts.specs.Adding.{same_rights}
+use Rattle.mapdb_fpage.specs.RightSets.{same_rights}
 use Rattle.mapdb_facts.specs.Exact.{exact_id}
 use Rattle.mapdb_facts.specs.Looking.{Holds}
 use Rattle.mapdb_facts.specs.Merging.{IsNamed}
@@ -28,7 +28,7 @@ use Rattle.mapdb_rights.proofs.Rights.Revoked.{revoked_from, revoked_settled}
 use Rattle.mapdb_rights.proofs.Settling.Ended.{numbered_is_other}
 use Rattle.mapdb_rights.proofs.Settling.Pendings.{pending_either, weight-last}
 use Rattle.mapdb_rights.proofs.Rights.Settled.{settling_unsettles_children}
-use Rattle.mapdb_facts.proofs.RecordLemmas.SameRecords.{beq_itself}
+use Rattle.mapdb_fpage.specs.RightBits.{beq_itself}
 
 -- ---- which pages are covered
 

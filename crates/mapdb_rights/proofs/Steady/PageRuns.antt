@@ -5,7 +5,7 @@ use Rattle.mapdb_fpage.specs.Bounds.{page_limit}
 use Rattle.mapdb_fpage.specs.RightSets.{is_empty}
 use Rattle.mapdb_fpage.specs.declared.right_sets.Rights.{Rights}
 use Rattle.mapdb_facts.proofs.Lists.RunLists.{run_to, skip_to}
-use Rattle.mapdb_facts.specs.Adding.{same_rights}
+use Rattle.mapdb_fpage.specs.RightSets.{same_rights}
 use Rattle.mapdb_facts.specs.Runs.{runs_from}
 use Rattle.mapdb_rights.specs.RightsRuns.{run_of, runs_behind}
 

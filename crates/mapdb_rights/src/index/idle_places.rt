@@ -15,9 +15,8 @@ ghost use Rattle.mapdb_rights.specs.IdlePlaces.{HasIdle, HasIdleBut, IsNoted};
 ghost use Rattle.mapdb_rights.specs.Meeting.{is_named};
 
 use super::listing::{list_place, place_of};
-use super::runs::has_some;
 use mapdb_facts::{Facts, Record, RecordId};
-use mapdb_lists::{AllChanges, Places, cached_at};
+use mapdb_lists::{AllChanges, Places, has_rights};
 use smallvec::SmallVec;
 use std::alloc::AllocError;
 
@@ -32,9 +31,7 @@ pub(crate) fn note_without_rights(
     ensures noted { OnOk result (IsNoted (cached_in changes.now.own.entries) idle.new.items
         mapping.now.id) }
 {
-    let page = mapping.place.first_page();
-    let rights = cached_at(changes, mapping.id, page);
-    if has_some(changes, mapping.id, page, rights) {
+    if has_rights(changes, mapping.id) {
         return Ok(());
     }
     idle.push(mapping.id)?;

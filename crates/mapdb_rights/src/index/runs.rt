@@ -2,7 +2,7 @@
 
 ghost use Rattle.std.specs.Prelude.{◌≡◌, ◌≤◌, ◌<◌, ◌+◌, [], ℕ, false, true, IfNone, IfOk, IfSome};
 ghost use Rattle.mapdb_fpage.specs.RightSets.{is_empty};
-ghost use Rattle.mapdb_facts.specs.Adding.{same_rights};
+ghost use Rattle.mapdb_fpage.specs.RightSets.{same_rights};
 ghost use Rattle.mapdb_lists.specs.Changes.{cached_in};
 ghost use Rattle.mapdb_rights.specs.LivePlaces.{HasSome};
 ghost use Rattle.mapdb_rights.specs.RightsRuns.{IsFirstRightsRun, runs_behind};

@@ -91,12 +91,15 @@ pub(crate) fn add_names(
     }
 }
 
-/// Puts names in ascending order, each once.
+/// Puts names in ascending order, each once. Mostly there is one, or none.
 fn put_in_order(names: &mut SmallVec<RecordId, 1>)
     ensures ordered { IsStrictlySortedBy id_cmp names.new.items }
     ensures kept { (id : RecordId) → is_named names.old.items id ≡ true
         → is_named names.new.items id ≡ true }
 {
+    if names.len() < 2 {
+        return;
+    }
     names.as_mut_slice().sort_unstable();
     names.dedup();
 }

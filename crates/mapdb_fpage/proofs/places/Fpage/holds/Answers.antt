@@ -1,8 +1,8 @@
 use Rattle.std.proofs.Common.{rules}
 use Rattle.mapdb_fpage.proofs.places.Fpage.holds.Goals as goal
 
-pub returns-then-self-page : goal.returns-then-self-page
-returns-then-self-page c = search rules
+pub returns-then-first_page-page : goal.returns-then-first_page-page
+returns-then-first_page-page c = search rules
 
-pub returns-else-self-page : goal.returns-else-self-page
-returns-else-self-page c = search rules
+pub returns-else-first_page-page : goal.returns-else-first_page-page
+returns-else-first_page-page c = search rules

@@ -1,15 +1,13 @@
-use Rattle.std.proofs.Common.{ap, sym, ◌∙◌, arith, inl, inr}
-use Rattle.mapdb_fpage.specs.RightSets.{is_empty}
+use Rattle.std.proofs.Common.{sym, subst}
 use Rattle.mapdb_lists.specs.OwnChanges.{own_change}
-use Rattle.mapdb_lists.specs.declared.changes.Change.{Change}
-use Rattle.mapdb_lists.proofs.ChangeLemmas.Replacing.{stretch_left}
-use Rattle.mapdb_lists.proofs.PlaceLemmas.Meetings.{either_way}
+use Rattle.mapdb_lists.specs.Replacing.{HasNoRights}
+use Rattle.mapdb_lists.specs.declared.own_changes.OwnChanges.{OwnChanges}
 use Rattle.mapdb_lists.proofs.own_changes.OwnChanges.has_rights.Goals as goal
 
-pub pages-preserved : goal.pages-preserved
-pages-preserved c q to = elim (either_way c.pages.page q) [
-  | inl behind ↦ ap (λ (change : Change). is_empty change.rights)
-      (stretch_left (own_change c.args.self.now) c.args.before.now c.pages.page c.stretch-next.result c.stretch-next.ensures q behind to)
-      ∙ sym c.is_none.ensures ∙ c.if-not-is_none.false
-  | inr before ↦ c.pages.invariant q (omega (arith, before))
-]
+pub returns-in-Few-clause-none : goal.returns-in-Few-clause-none
+returns-in-Few-clause-none c told =
+    subst (λ (own : OwnChanges). HasNoRights (own_change own) c.args.before.now) (sym c.in-Few.is) (c.has_rights.ensures.none told)
+
+pub returns-in-Many-clause-none : goal.returns-in-Many-clause-none
+returns-in-Many-clause-none c told =
+    subst (λ (own : OwnChanges). HasNoRights (own_change own) c.args.before.now) (sym c.in-Many.is) (c.many_rights.ensures.none told)

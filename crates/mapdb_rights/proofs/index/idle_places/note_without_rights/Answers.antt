@@ -4,8 +4,8 @@ use Rattle.mapdb_rights.specs.Meeting.{is_named}
 use Rattle.mapdb_rights.proofs.Lists.NamedRecords.{named_front, named_last}
 use Rattle.mapdb_rights.proofs.index.idle_places.note_without_rights.Goals as goal
 
-pub returns-then-has_some-clause-noted : goal.returns-then-has_some-clause-noted
-returns-then-has_some-clause-noted c = inl (c.has_some.ensures.some c.if-has_some.true)
+pub returns-then-has_rights-clause-noted : goal.returns-then-has_rights-clause-noted
+returns-then-has_rights-clause-noted c = inl (c.has_rights.ensures.some c.if-has_rights.true)
 
 pub returns-clause-noted : goal.returns-clause-noted
 returns-clause-noted c =

@@ -1,10 +1,10 @@
-use Rattle.std.proofs.Common.{◌≡◌, ◌++◌, ◌∙◌, List, ap, drop, length, refl, subst, sym, take}
+use Rattle.std.proofs.Common.{◌≡◌, ◌++◌, arith, ◌∙◌, List, ap, drop, length, refl, subst, sym, take}
 use Rattle.std.specs.List.{refill}
 use Rattle.std.specs.List.Sorted.{IsPermutation, IsSorted}
 use Rattle.std.proofs.Math.Seq.{take-append_seam}
 use Rattle.mapdb_facts.specs.Kept.{id_cmp}
 use Rattle.mapdb_facts.specs.declared.names.RecordId.{RecordId}
-use Rattle.mapdb_rights.proofs.Lists.NamedRecords.{names_rise, names_stay}
+use Rattle.mapdb_rights.proofs.Lists.NamedRecords.{few_in_order, names_rise, names_stay}
 use Rattle.mapdb_rights.proofs.index.sharing.put_in_order.Goals as goal
 
 -- a list that was sorted in its place
@@ -31,3 +31,6 @@ returns-clause-kept c =
     (subst (λ (l : List RecordId). IsPermutation l (refill (length xs) xs ys)) c.as_mut_slice.ensures.value
     (subst (λ (l : List RecordId). IsPermutation c.as_mut_slice.result.now l) (sym all) c.sort_unstable.ensures.permutation))
     c.dedup.ensures.items
+
+pub returns-then-len-lt2-clause-ordered : goal.returns-then-len-lt2-clause-ordered
+returns-then-len-lt2-clause-ordered c = few_in_order c.args.names.now.items (omega arith)
