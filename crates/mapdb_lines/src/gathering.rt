@@ -32,8 +32,8 @@ pub struct Span {
     ghost within: { end ≤ read_ahead },
 }
 
-/// A line that is gathered from one piece after the other, and the bytes that were read ahead of it,
-/// `piece[start..end]`.
+/// A line that is gathered from one piece after the other, and the bytes that were read ahead of
+/// it, `piece[start..end]`.
 #[derive(Drop)]
 pub struct Gathering {
     line: Vec<u8>,
