@@ -1,4 +1,5 @@
 pub mod FewChanges
+pub mod FirstChanges
 pub mod LastChanges
 pub mod ListWrites
 pub mod ManyChanges

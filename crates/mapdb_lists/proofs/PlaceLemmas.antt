@@ -4,6 +4,7 @@ pub mod OrderBits
 pub mod OwnersPlaces
 pub mod ByOwners
 pub mod PlaceLists
+pub mod PlaceNames
 pub mod PlaceOrder
 pub mod SpacePlaces
 pub mod OwnSweeps

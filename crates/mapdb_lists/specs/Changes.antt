@@ -35,6 +35,10 @@ change_in (Some own) page = own_change own page
 abbrev pub change_at : PageChanges → RecordId → ℕ → Option Change
 change_at changes id page = change_in (lookup (same_id id) changes) page
 
+-- no change at any page
+abbrev pub no_change : {V : Type 0} → ℕ → Option V
+no_change page = None
+
 -- what stands before any change: the root has all rights, and each page of it is its own frame
 abbrev pub at_first : RecordId → Change
 at_first id = record { rights = if is_root id then all_rights else no_rights; shift = page_limit }

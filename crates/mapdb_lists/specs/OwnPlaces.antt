@@ -2,10 +2,12 @@
 use Rattle.std.specs.Prelude.{◌≡◌, ℕ, Bool, true, false, ◌&&◌, ◌+◌, ◌-◌, ◌*◌, ◌%◌, ◌^◌, ◌≤◌, ◌<◌}
 use Rattle.std.specs.Prelude.{nat_lt, min, max, List, Option, Some, None, if◌then◌else◌, ◌⊎◌, []}
 use Rattle.std.specs.Prelude.{◌∷◌, drop, filter, length}
-use Rattle.std.specs.BTreeMap.Range.{IsLeBy}
+use Rattle.std.specs.BTreeMap.Range.{IsLeBy, is_from_start}
 use Rattle.std.specs.Ordering.{is_lt}
+use Rattle.std.specs.declared.ops.Bound.TheVariants.{Included}
 use Rattle.mapdb_fpage.specs.Bounds.{least_order, page_limit, top_order}
 use Rattle.mapdb_facts.specs.Names.{root}
+use Rattle.mapdb_facts.specs.declared.names.RecordId.{RecordId}
 pub use Rattle.mapdb_lists.specs.Standing.{place_cmp, stands}
 use Rattle.mapdb_lists.specs.declared.own_places.FoundPlace.{FoundPlace}
 use Rattle.mapdb_lists.specs.declared.own_places.NextPlace.{NextPlace}
@@ -117,6 +119,23 @@ abbrev pub HasReachedFrom : List OwnPlace → ℕ → ℕ → ℕ → Option Own
 HasReachedFrom places order first end None = (k : OwnPlace) → stands places k ≡ true
     → order ≤ k.order → own_meets k first end ≡ false
 HasReachedFrom places order first end (Some p) = IsReachedFrom places order first end p
+
+-- the name of a place that meets the pages
+pub record IsNameMeeting (places : List OwnPlace) (first end : ℕ) (id : RecordId) : Type 0 where
+  pub p : OwnPlace
+  pub held : stands places p ≡ true
+  pub meeting : own_meets p first end ≡ true
+  pub is : p.id ≡ id
+
+-- the name of a place from one on that is of its order and begins before an end
+pub record IsNameFrom (places : List OwnPlace) (from : OwnPlace) (end : ℕ) (id : RecordId)
+    : Type 0 where
+  pub p : OwnPlace
+  pub held : stands places p ≡ true
+  pub inside : is_from_start place_cmp (Included from) p ≡ true
+  pub order : p.order ≡ from.order
+  pub begins : p.first < end
+  pub is : p.id ≡ id
 
 -- where places begin, from an order and a first page on
 abbrev pub start : ℕ → ℕ → OwnPlace

@@ -8,6 +8,7 @@ use Rattle.std.specs.List.{list_any}
 use Rattle.std.specs.Ordering.{nat_cmp, ordering_then}
 use Rattle.std.specs.declared.cmp.Ordering.{Ordering}
 use Rattle.mapdb_facts.specs.Kept.{id_cmp}
+use Rattle.mapdb_facts.specs.declared.names.RecordId.{RecordId}
 use Rattle.mapdb_lists.specs.declared.orders.Orders.{Orders}
 use Rattle.mapdb_lists.specs.declared.limits.TheConstants.{ORDER_LIMIT}
 use Rattle.mapdb_lists.specs.declared.own_places.OwnPlace.{OwnPlace}
@@ -21,6 +22,10 @@ place_cmp a b =
 -- the place is one of these
 abbrev pub stands : List OwnPlace → OwnPlace → Bool
 stands places p = list_any (is_at (place_cmp p)) places
+
+-- the name is one of these
+abbrev pub is_named : List RecordId → RecordId → Bool
+is_named names id = list_any (is_at (id_cmp id)) names
 
 -- the orders for which there is a bit lie below this
 abbrev pub order_limit : ℕ

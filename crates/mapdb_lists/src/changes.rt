@@ -182,6 +182,7 @@ pub fn cached_at(changes: &AllChanges, id: RecordId, page: u64) -> Rights
 }
 
 /// Whether a record has a right at some page, as it is cached. Its changes are looked up once.
+#[inline(always)]
 pub fn has_rights(changes: &AllChanges, id: RecordId) -> bool
     ensures some { result ≡ true → (page : ℕ)
         × (is_empty (cached_in changes.now.own.entries id page) ≡ false) }
@@ -191,7 +192,7 @@ pub fn has_rights(changes: &AllChanges, id: RecordId) -> bool
     let first = first_change(id);
     match changes.own.get(id) {
         Some(own) => own.has_rights(&first),
-        None => !first.rights.is_none(),
+        None => !first.is_none(),
     }
 }
 
@@ -244,13 +245,18 @@ fn replace_among(
     if let Some(at) = own_changes.places.get(id) {
         return own_changes.values[at].replace(alloc, before, first, limit, change);
     }
-    let mut own = OwnChanges::new(alloc);
-    let replaced = own.replace(alloc, before, first, limit, change)?;
-    if replaced.had_some.is_none() {
-        return Ok(replaced);
+    if before.rights == change.rights {
+        return Ok(Replaced {
+            end: limit,
+            had_some: None,
+        });
     }
+    let own = OwnChanges::begun(alloc, before, first, limit, change)?;
     own_changes.insert(id, own)?;
-    Ok(replaced)
+    Ok(Replaced {
+        end: limit,
+        had_some: Some(!before.is_none()),
+    })
 }
 
 /// Gives a change to the pages of a record, by number, from `first` on up to before `limit`, as far

@@ -2,7 +2,7 @@
 
 use crate::change_lists::{any_rights, end_at, last_at, list_last, list_next, map_of, spot_of};
 use crate::changes::{Change, Stretch};
-use crate::list_writes::list_write;
+use crate::list_writes::{list_begin, list_write};
 use mapdb_fpage::{PAGE_LIMIT, Rights};
 use smallvec::SmallVec;
 use std::alloc::{AllocError, Global};
@@ -51,7 +51,7 @@ impl Model for FewChanges {
 impl FewChanges {
     ghost use Rattle.std.specs.Prelude.{◌≡◌, ◌≤◌, ◌<◌, ◌↔◌, ℕ, [], false, true, IfOk, IsTrue, OnOk};
     ghost use Rattle.std.specs.Prelude.{length};
-    ghost use Rattle.mapdb_lists.specs.Changes.{IsRewritten, IsStretch, changed};
+    ghost use Rattle.mapdb_lists.specs.Changes.{IsRewritten, IsStretch, changed, no_change};
     ghost use Rattle.mapdb_lists.specs.FewChanges.{ShowsChange, few_change, shift_for};
     ghost use Rattle.mapdb_lists.specs.OwnChanges.{IsLastUpTo, IsNoneUntil, mapped_change};
     ghost use Rattle.mapdb_lists.specs.PageOrder.{IsSpot};
@@ -143,7 +143,7 @@ impl FewChanges {
         ensures shift { self.new.shift ≡ shift_for self.old change.now }
         ensures list { self.new.list ≡ self.old.list }
     {
-        if self.list.is_empty() && !change.rights.is_none() {
+        if self.list.is_empty() && !change.is_none() {
             self.shift = change.shift;
         }
     }
@@ -167,6 +167,26 @@ impl FewChanges {
     {
         self.take_shift(change);
         self.shows(before) && self.shows(change)
+    }
+
+    /// Gives a change to pages where the list has none at all, and this stands before any, and it
+    /// shows both as they are. An error where memory ran out.
+    #[inline(always)]
+    pub(crate) fn begin(
+        &mut self,
+        before: Change,
+        first: u64,
+        end: u64,
+        change: Change,
+    ) -> Result<(), AllocError>
+        requires some { first < end }
+        requires bare { self.old.list ≡ [] }
+        requires before { ShowsChange self.old.shift before }
+        requires change { ShowsChange self.old.shift change }
+        ensures { OnOk result (IsRewritten no_change before first end before change
+            (few_change self.new)) }
+    {
+        list_begin(&mut self.list, before.rights, first, end, change.rights)
     }
 
     /// Gives a change to pages over which another stood, where this stands before any change, and

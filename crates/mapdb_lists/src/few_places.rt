@@ -1,12 +1,12 @@
 //! A few places as they came: the least of them is found by looking at each.
 
-ghost use Rattle.std.specs.Prelude.{◌≡◌, ◌&&◌, not};
+ghost use Rattle.std.specs.Prelude.{◌≡◌, ◌&&◌, false, not, true};
 ghost use Rattle.std.specs.BTreeMap.{is_at};
 ghost use Rattle.std.specs.BTreeMap.Range.{is_from_start};
 ghost use Rattle.mapdb_lists.specs.OwnPlaces.{AreAligned, IsAlignedPlace, IsFirstPlaceWhere};
 ghost use Rattle.mapdb_lists.specs.OwnPlaces.{IsNextPlace, IsSweptOn, few_ahead, is_beyond};
-ghost use Rattle.mapdb_lists.specs.OwnPlaces.{is_next, lesser_place, lesser_where, place_cmp};
-ghost use Rattle.mapdb_lists.specs.OwnPlaces.{stands};
+ghost use Rattle.mapdb_lists.specs.OwnPlaces.{is_next, lesser_place, lesser_where, own_meets};
+ghost use Rattle.mapdb_lists.specs.OwnPlaces.{place_cmp, stands};
 ghost use Rattle.mapdb_lists.specs.declared.own_places.OwnPlace.{OwnPlace};
 
 use crate::own_places::{NextPlace, OwnPlace, Sweep};
@@ -127,6 +127,23 @@ pub(crate) fn next_of_few(
         }
     }
     None
+}
+
+/// Whether one of a few places meets the pages from `first` on up to before `end`.
+#[inline(always)]
+pub(crate) fn few_meet(places: &[OwnPlace], first: u64, end: u64) -> bool
+    requires { AreAligned places.now }
+    ensures some { result ≡ true → (p : OwnPlace) × (stands places.now p ≡ true)
+        × (own_meets p first end ≡ true) }
+    ensures none { result ≡ false → (p : OwnPlace) → stands places.now p ≡ true
+        → own_meets p first end ≡ false }
+{
+    for place in places {
+        if place.meets(first, end) {
+            return true;
+        }
+    }
+    false
 }
 
 /// Takes a place out of a few, as often as it stands among them. It takes no memory.

@@ -30,8 +30,10 @@ mod own_changes;
 mod own_places;
 mod owners_places;
 mod place_lists;
+mod place_names;
 mod place_sets;
 mod places;
+mod short_lists;
 mod sorted_places;
 mod space_places;
 
@@ -41,3 +43,4 @@ pub use changes::{
 };
 pub use own_places::{NextPlace, OwnPlace, OwnPlaces, Sweep};
 pub use places::{Listed, Owner, Places};
+pub use short_lists::add_item;

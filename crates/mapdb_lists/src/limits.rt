@@ -4,8 +4,8 @@
 pub(crate) const FEW_CHANGES: usize = 32;
 
 /// For how many changes more a full list of changes gets room: pages in the midst of a record that
-/// get other rights are two.
-pub(crate) const ROOM_FOR_CHANGES: usize = 2;
+/// get other rights are two, and where some did, more do.
+pub(crate) const ROOM_FOR_CHANGES: usize = 4;
 
 /// How many places are looked through one by one; more stand in their order.
 pub(crate) const FEW_PLACES: usize = 32;

@@ -1,12 +1,12 @@
 //! Changes written to a list in ascending order of page, by one search.
 
-ghost use Rattle.std.specs.Prelude.{◌≡◌, ◌≤◌, ◌<◌, ◌↔◌, ℕ, Some, None, IfErr, IfNone, IfOk};
-ghost use Rattle.std.specs.Prelude.{IfSome, IsTrue, OnErr, OnOk, get_or, length, slice_set, false};
-ghost use Rattle.std.specs.Prelude.{true};
+ghost use Rattle.std.specs.Prelude.{◌≡◌, ◌≤◌, ◌<◌, ◌↔◌, ◌++◌, ◌∷◌, ℕ, Some, None, IfErr, IfNone};
+ghost use Rattle.std.specs.Prelude.{IfOk, IfSome, IsTrue, OnErr, OnOk, get_or, length, slice_set, false};
+ghost use Rattle.std.specs.Prelude.{[], true};
 ghost use Rattle.std.specs.List.{insert};
 ghost use Rattle.std.specs.Option.{unwrap_or};
 ghost use Rattle.mapdb_lists.specs.Changes.{IsOneForOne, IsRewritten, MovesBack, MovesOn};
-ghost use Rattle.mapdb_lists.specs.Changes.{left_before};
+ghost use Rattle.mapdb_lists.specs.Changes.{left_before, no_change};
 ghost use Rattle.mapdb_lists.specs.FewChanges.{listed_rights};
 ghost use Rattle.mapdb_lists.specs.OwnChanges.{IsNoneUntil};
 ghost use Rattle.mapdb_lists.specs.PageOrder.{AreInFront, IsGap, IsSpot, PagesRise, StandsAtPage};
@@ -306,4 +306,49 @@ pub(crate) fn list_write(
     }
     let spot = write_first(list, found, before, first, rights)?;
     write_end(list, spot, first, end, was, rights)
+}
+
+/// Puts a change behind all others. An error where memory ran out, and then the same changes stand
+/// there.
+#[inline(always)]
+fn add_change(list: &mut SmallVec<PageRights, 2>, next: PageRights) -> Result<(), AllocError>
+    ensures ok { OnOk result (list.new.items ≡ list.old.items ++ next ∷ []) }
+    ensures err { OnErr result (list.new.items ≡ list.old.items) }
+{
+    if list.len() == list.capacity() {
+        list.reserve_exact(ROOM_FOR_CHANGES)?;
+    }
+    list.push_reserved(next);
+    Ok(())
+}
+
+/// Gives rights to pages where a list has no changes, and these stand before any. An error where
+/// memory ran out.
+#[inline(always)]
+pub(crate) fn list_begin(
+    list: &mut SmallVec<PageRights, 2>,
+    before: Rights,
+    first: u64,
+    end: u64,
+    rights: Rights,
+) -> Result<(), AllocError>
+    requires bare { list.old.items ≡ [] }
+    requires some { first < end }
+    ensures rise { PagesRise list.new.items }
+    ensures written { OnOk result (IsRewritten no_change before first end before rights
+        (listed_rights list.new.items)) }
+{
+    let start = PageRights {
+        page: first,
+        rights,
+    };
+    add_change(list, start)?;
+    if end < PAGE_LIMIT {
+        let behind = PageRights {
+            page: end,
+            rights: before,
+        };
+        add_change(list, behind)?;
+    }
+    Ok(())
 }

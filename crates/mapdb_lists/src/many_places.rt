@@ -6,7 +6,9 @@ use crate::orders::Orders;
 use crate::own_places::{FoundPlace, OwnPlace};
 use crate::place_sets::{Spot, start_of};
 use crate::sorted_places::SortedPlaces;
+use mapdb_facts::RecordId;
 use mapdb_fpage::{LEAST_ORDER, TOP_ORDER};
+use smallvec::SmallVec;
 use std::alloc::{AllocError, Global};
 
 /// Many places of an owner, in ascending order, and which orders they have.
@@ -19,14 +21,17 @@ pub struct ManyPlaces {
 
 impl ManyPlaces {
     ghost use Rattle.std.specs.Prelude.{◌≡◌, ◌<◌, ◌&&◌, ◌||◌, ℕ, IfSome, OnOk, [], false, None};
-    ghost use Rattle.std.specs.Prelude.{Some, not, option_map, true};
+    ghost use Rattle.std.specs.Prelude.{◌⊎◌, Some, not, option_map, true};
     ghost use Rattle.std.specs.BTreeMap.{is_at};
     ghost use Rattle.std.specs.BTreeMap.Range.{is_from_start};
     ghost use Rattle.std.specs.declared.ops.Bound.TheVariants.{Excluded, Included};
     ghost use Rattle.mapdb_lists.specs.OwnPlaces.{AreAligned, HasReached, HasReachedFrom, IsBehind};
-    ghost use Rattle.mapdb_lists.specs.OwnPlaces.{IsFirstPlaceWhere, IsLastWhereSaid, IsNextPlace};
+    ghost use Rattle.mapdb_lists.specs.OwnPlaces.{IsFirstPlaceWhere, IsLastWhereSaid, IsNameMeeting};
+    ghost use Rattle.mapdb_lists.specs.OwnPlaces.{IsNextPlace};
     ghost use Rattle.mapdb_lists.specs.OwnPlaces.{found_place, orders_ahead, own_meets, place_cmp};
     ghost use Rattle.mapdb_lists.specs.OwnPlaces.{spot_place, stands};
+    ghost use Rattle.mapdb_lists.specs.Standing.{is_named};
+    ghost use Rattle.mapdb_facts.specs.declared.names.RecordId.{RecordId};
     ghost use Rattle.mapdb_lists.specs.declared.own_places.OwnPlace.{OwnPlace};
 
     /// No places. It takes no memory.
@@ -167,5 +172,35 @@ impl ManyPlaces {
             reached = self.pass(place, first, end);
         }
         None
+    }
+
+    /// Adds the names of all places that meet the pages from `first` on up to before `end`. An
+    /// error where memory ran out.
+    pub(crate) fn add_names(
+        &self,
+        names: &mut SmallVec<RecordId, 1>,
+        first: u64,
+        end: u64,
+    ) -> Result<(), AllocError>
+        requires { AreAligned self.now.places }
+        ensures kept { OnOk result ((id : RecordId) → is_named names.old.items id ≡ true
+            → is_named names.new.items id ≡ true) }
+        ensures named { OnOk result ((p : OwnPlace) → stands self.now.places p ≡ true
+            → own_meets p first end ≡ true → is_named names.new.items p.id ≡ true) }
+        ensures only { OnOk result ((id : RecordId) → is_named names.new.items id ≡ true
+            → (is_named names.old.items id ≡ true) ⊎ IsNameMeeting self.now.places first end id) }
+    {
+        if first >= end {
+            return Ok(());
+        }
+        let mut reached = self.orders.next_from(LEAST_ORDER);
+        'orders: while let Some(order) = reached {
+            if order > TOP_ORDER {
+                return Ok(());
+            }
+            self.places.add_names(names, start_of(order, first), end)?;
+            reached = self.orders.next_from(order + 1);
+        }
+        Ok(())
     }
 }

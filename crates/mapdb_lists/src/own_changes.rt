@@ -1,7 +1,7 @@
 //! The changes of one record: a few in a list, many in a map.
 
 ghost use Rattle.std.specs.Prelude.{◌≡◌, ◌≤◌, ◌<◌, ℕ, None, false, true, IfOk, IsTrue, OnOk};
-ghost use Rattle.mapdb_lists.specs.Changes.{IsRewritten, IsStretch, changed};
+ghost use Rattle.mapdb_lists.specs.Changes.{IsRewritten, IsStretch, changed, no_change};
 ghost use Rattle.mapdb_lists.specs.OwnChanges.{CanKeep, IsLastUpTo, IsNoneUntil, IsSpotIn};
 ghost use Rattle.mapdb_lists.specs.OwnChanges.{own_change};
 ghost use Rattle.mapdb_lists.specs.Replacing.{HasNoRights, HasRights, IsReplaced};
@@ -30,6 +30,30 @@ impl OwnChanges {
         ensures { (page : ℕ) → own_change result page ≡ None }
     {
         OwnChanges::Few(FewChanges::new(alloc))
+    }
+
+    /// The changes after pages got one where there was none, and this stood before any. An error
+    /// where memory ran out.
+    #[inline(always)]
+    pub(crate) fn begun(
+        alloc: Global,
+        before: Change,
+        first: u64,
+        end: u64,
+        change: Change,
+    ) -> Result<OwnChanges, AllocError>
+        requires { first < end }
+        ensures { IfOk result (λ own. IsRewritten no_change before first end before change
+            (own_change own)) }
+    {
+        let mut few = FewChanges::new(alloc);
+        if few.takes(&before, &change) {
+            few.begin(before, first, end, change)?;
+            return Ok(OwnChanges::Few(few));
+        }
+        let mut map = BTreeMap::new(alloc);
+        many_write(&mut map, before, first, end, before, change)?;
+        Ok(OwnChanges::Many(map))
     }
 
     /// The last change up to a page, and where it stands.
@@ -202,6 +226,7 @@ impl OwnChanges {
     }
 
     /// Whether there are rights at some page, where this stands before any change.
+    #[inline(always)]
     pub(crate) fn has_rights(&self, before: &Change) -> bool
         ensures some { result ≡ true → HasRights (own_change self.now) before.now }
         ensures none { result ≡ false → HasNoRights (own_change self.now) before.now }

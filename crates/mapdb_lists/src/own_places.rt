@@ -1,23 +1,27 @@
 //! The places of one owner: one by itself, a few as they came, many in their order.
 
 ghost use Rattle.std.specs.Prelude.{◌≡◌, ◌≤◌, ◌<◌, ◌-◌, ◌^◌, ◌&&◌, ◌||◌, IfOk, IfSome, OnOk, []};
-ghost use Rattle.std.specs.Prelude.{not, option_map};
+ghost use Rattle.std.specs.Prelude.{◌⊎◌, false, not, option_map, true};
 ghost use Rattle.std.specs.BTreeMap.{is_at};
 ghost use Rattle.std.specs.BTreeMap.Range.{is_from_start};
 ghost use Rattle.std.specs.Option.{option_copied};
 ghost use Rattle.std.specs.Ordering.{is_lt};
 ghost use Rattle.std.specs.declared.ops.Bound.TheVariants.{Excluded, Included};
 ghost use Rattle.mapdb_lists.specs.OwnPlaces.{AreAligned, IsAlignedPlace, IsFirstPlaceWhere};
-ghost use Rattle.mapdb_lists.specs.OwnPlaces.{IsNextPlace, found_place, IsSweptOn, ahead, at_start};
+ghost use Rattle.mapdb_lists.specs.OwnPlaces.{IsNameMeeting, IsNextPlace, found_place, IsSweptOn, ahead, at_start};
 ghost use Rattle.mapdb_lists.specs.OwnPlaces.{few_list, many_ahead, own_list, own_meets, place_cmp};
 ghost use Rattle.mapdb_lists.specs.OwnPlaces.{stands};
+ghost use Rattle.mapdb_lists.specs.Standing.{is_named};
+ghost use Rattle.mapdb_facts.specs.declared.names.RecordId.{RecordId};
 ghost use Rattle.mapdb_lists.specs.declared.own_places.OwnPlace.{OwnPlace};
 
-use crate::few_places::{few_remove, least_inside, least_meeting, next_of_few};
+use crate::few_places::{few_meet, few_remove, least_inside, least_meeting, next_of_few};
 use crate::limits::FEW_PLACES;
 use crate::many_places::ManyPlaces;
+use crate::place_names::few_names;
 use mapdb_facts::RecordId;
-use mapdb_fpage::{LEAST_ORDER, PAGE_LIMIT, TOP_ORDER};
+use mapdb_fpage::pages_of_order;
+use smallvec::SmallVec;
 use std::alloc::{AllocError, Global};
 use std::ops::Bound;
 use std::slice::from_ref;
@@ -31,17 +35,6 @@ pub struct OwnPlace {
     pub first: u64,
     /// The record that stands for it.
     pub id: RecordId,
-}
-
-/// How many pages a place of this order has.
-pub(crate) fn pages_of_order(order: u8) -> u64
-    requires least { LEAST_ORDER ≤ order }
-    requires most { order ≤ TOP_ORDER }
-    ensures count { result ≡ 2 ^ (order - LEAST_ORDER) }
-    ensures some { 0 < result }
-    ensures limit { result ≤ PAGE_LIMIT }
-{
-    1 << (order - LEAST_ORDER)
 }
 
 impl OwnPlace {
@@ -313,6 +306,45 @@ impl OwnPlaces {
             OwnPlaces::One(_) => {}
             OwnPlaces::Few(list) => few_remove(list, place),
             OwnPlaces::Many(many) => many.remove(place),
+        }
+    }
+
+    /// Adds the names of all places that meet the pages from `first` on up to before `end`. An
+    /// error where memory ran out.
+    pub fn add_names(
+        &self,
+        names: &mut SmallVec<RecordId, 1>,
+        first: u64,
+        end: u64,
+    ) -> Result<(), AllocError>
+        requires { AreAligned (own_list self.now) }
+        ensures kept { OnOk result ((id : RecordId) → is_named names.old.items id ≡ true
+            → is_named names.new.items id ≡ true) }
+        ensures named { OnOk result ((p : OwnPlace) → stands (own_list self.now) p ≡ true
+            → own_meets p first end ≡ true → is_named names.new.items p.id ≡ true) }
+        ensures only { OnOk result ((id : RecordId) → is_named names.new.items id ≡ true
+            → (is_named names.old.items id ≡ true)
+            ⊎ IsNameMeeting (own_list self.now) first end id) }
+    {
+        match self {
+            OwnPlaces::One(place) => few_names(names, from_ref(place), first, end),
+            OwnPlaces::Few(list) => few_names(names, list.as_slice(), first, end),
+            OwnPlaces::Many(many) => many.add_names(names, first, end),
+        }
+    }
+
+    /// Whether a place meets the pages from `first` on up to before `end`.
+    pub fn any_meets(&self, first: u64, end: u64) -> bool
+        requires { AreAligned (own_list self.now) }
+        ensures some { result ≡ true → (p : OwnPlace) × (stands (own_list self.now) p ≡ true)
+            × (own_meets p first end ≡ true) }
+        ensures none { result ≡ false → (p : OwnPlace) → stands (own_list self.now) p ≡ true
+            → own_meets p first end ≡ false }
+    {
+        match self {
+            OwnPlaces::One(place) => few_meet(from_ref(place), first, end),
+            OwnPlaces::Few(list) => few_meet(list.as_slice(), first, end),
+            OwnPlaces::Many(many) => many.next_meeting(first, end, None, 0).is_some(),
         }
     }
 }

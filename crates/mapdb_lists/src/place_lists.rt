@@ -37,6 +37,16 @@ fn spot_at(list: &[OwnPlace], index: usize) -> Option<Spot>
     }
 }
 
+/// Where a place belongs: behind all that come before it.
+pub(crate) fn index_for(list: &[OwnPlace], place: OwnPlace) -> usize
+    requires { Ascend list.now }
+    ensures bound { result ≤ length list.now }
+    ensures parted { IsPartitionPoint (λ y. is_lt (place_cmp y place) ≡ true)
+        (λ y. is_lt (place_cmp y place) ≡ false) list.now result }
+{
+    list.partition_point(|other| other.is_before(&place))
+}
+
 /// The least place from one on, and the one behind it.
 pub(crate) fn list_from(list: &[OwnPlace], from: OwnPlace) -> Option<Spot>
     requires { Ascend list.now }
@@ -44,8 +54,7 @@ pub(crate) fn list_from(list: &[OwnPlace], from: OwnPlace) -> Option<Spot>
         (option_map spot_place result) }
     ensures behind { IfSome result (IsBehind list.now) }
 {
-    let index = list.partition_point(|place| place.is_before(&from));
-    spot_at(list, index)
+    spot_at(list, index_for(list, from))
 }
 
 /// The least place above one, and the one behind it. Where that one stands at the index `at`, no
@@ -61,16 +70,6 @@ pub(crate) fn list_above(list: &[OwnPlace], after: OwnPlace, at: usize) -> Optio
     }
     let index = list.partition_point(|place| !after.is_before(place));
     spot_at(list, index)
-}
-
-/// Where a place belongs: behind all that come before it.
-fn index_for(list: &[OwnPlace], place: OwnPlace) -> usize
-    requires { Ascend list.now }
-    ensures bound { result ≤ length list.now }
-    ensures parted { IsPartitionPoint (λ y. is_lt (place_cmp y place) ≡ true)
-        (λ y. is_lt (place_cmp y place) ≡ false) list.now result }
-{
-    list.partition_point(|other| other.is_before(&place))
 }
 
 /// Whether a place stands at an index.

@@ -6,9 +6,9 @@ ghost use Rattle.std.specs.declared.ops.Bound.TheVariants.{Excluded, Included};
 ghost use Rattle.mapdb_lists.specs.OwnPlaces.{IsBehind, IsFirstPlaceWhere, place_cmp, spot_place};
 ghost use Rattle.mapdb_lists.specs.OwnPlaces.{start};
 
-use crate::own_places::{OwnPlace, pages_of_order};
+use crate::own_places::OwnPlace;
 use mapdb_facts::RecordId;
-use mapdb_fpage::{LEAST_ORDER, TOP_ORDER};
+use mapdb_fpage::{LEAST_ORDER, TOP_ORDER, pages_of_order};
 use std::collections::BTreeSet;
 use std::ops::Bound;
 

@@ -9,7 +9,10 @@ ghost use Rattle.mapdb_lists.specs.declared.own_places.OwnPlace.{OwnPlace};
 use crate::limits::SOME_PLACES;
 use crate::own_places::OwnPlace;
 use crate::place_lists::{list_above, list_from, list_put, list_remove};
+use crate::place_names::{list_names, tree_names};
 use crate::place_sets::{Spot, set_above, set_from};
+use mapdb_facts::RecordId;
+use smallvec::SmallVec;
 use std::alloc::{AllocError, Global};
 use std::collections::BTreeSet;
 use std::marker::Model;
@@ -128,13 +131,17 @@ impl Model for SortedPlaces {
 }
 
 impl SortedPlaces {
-    ghost use Rattle.std.specs.Prelude.{◌≡◌, ◌&&◌, ◌||◌, IfSome, OnErr, OnOk, [], not, option_map};
+    ghost use Rattle.std.specs.Prelude.{◌≡◌, ◌<◌, ◌&&◌, ◌||◌, IfSome, OnErr, OnOk, [], not};
+    ghost use Rattle.std.specs.Prelude.{◌⊎◌, option_map, true};
     ghost use Rattle.std.specs.BTreeMap.{is_at};
     ghost use Rattle.std.specs.BTreeMap.Range.{is_from_start};
     ghost use Rattle.std.specs.declared.ops.Bound.TheVariants.{Excluded, Included};
-    ghost use Rattle.mapdb_lists.specs.OwnPlaces.{IsBehind, IsFirstPlaceWhere, place_cmp};
+    ghost use Rattle.mapdb_lists.specs.OwnPlaces.{IsBehind, IsFirstPlaceWhere, IsNameFrom};
+    ghost use Rattle.mapdb_lists.specs.OwnPlaces.{place_cmp};
     ghost use Rattle.mapdb_lists.specs.OwnPlaces.{spot_place, stands};
+    ghost use Rattle.mapdb_lists.specs.Standing.{is_named};
     ghost use Rattle.mapdb_lists.specs.declared.own_places.OwnPlace.{OwnPlace};
+    ghost use Rattle.mapdb_facts.specs.declared.names.RecordId.{RecordId};
 
     /// No places. It takes no memory.
     pub(crate) fn new(alloc: Global) -> SortedPlaces
@@ -185,6 +192,28 @@ impl SortedPlaces {
         match &self.kept {
             KeptPlaces::Listed(list) => list_above(list.as_slice(), after, at),
             KeptPlaces::Tree(tree) => set_above(tree, after),
+        }
+    }
+
+    /// Adds the names of the places from one on that are of its order and begin before an end. An
+    /// error where memory ran out.
+    pub(crate) fn add_names(
+        &self,
+        names: &mut SmallVec<RecordId, 1>,
+        from: OwnPlace,
+        end: u64,
+    ) -> Result<(), AllocError>
+        ensures kept { OnOk result ((id : RecordId) → is_named names.old.items id ≡ true
+            → is_named names.new.items id ≡ true) }
+        ensures named { OnOk result ((p : OwnPlace) → stands self.now p ≡ true
+            → is_from_start place_cmp (Included from) p ≡ true → p.order ≡ from.order
+            → p.first < end → is_named names.new.items p.id ≡ true) }
+        ensures only { OnOk result ((id : RecordId) → is_named names.new.items id ≡ true
+            → (is_named names.old.items id ≡ true) ⊎ IsNameFrom self.now from end id) }
+    {
+        match &self.kept {
+            KeptPlaces::Listed(list) => list_names(names, list.as_slice(), from, end),
+            KeptPlaces::Tree(tree) => tree_names(names, tree, from, end),
         }
     }
 }

@@ -5,7 +5,7 @@ ghost use Rattle.mapdb_replica.specs.Running.{continues};
 
 use crate::replicas::Replica;
 use mapdb_facts::Space;
-use mapdb_fpage::{PAGE_LIMIT, Rights};
+use mapdb_fpage::{Fpage, PAGE_LIMIT, Rights};
 use mapdb_rights::{SteadyPages, show_until};
 use std::alloc::AllocError;
 
@@ -30,10 +30,11 @@ pub fn continues(first: Option<(u64, Rights)>, count: u64, later: Option<(u64, R
 }
 
 impl Replica {
-    ghost use Rattle.std.specs.Prelude.{◌≡◌, ◌≤◌, ◌<◌, true, IfOk, IfSome};
+    ghost use Rattle.std.specs.Prelude.{◌≡◌, ◌≤◌, ◌<◌, ℕ, None, true, IfOk, IfSome};
     ghost use Rattle.mapdb_facts.specs.State.{state_of};
     ghost use Rattle.mapdb_facts.specs.WellFormed.{all_formed};
     ghost use Rattle.mapdb_fpage.specs.Bounds.{page_limit};
+    ghost use Rattle.mapdb_fpage.specs.Place.{holds};
     ghost use Rattle.mapdb_rights.specs.Live.{ShowUntil};
     ghost use Rattle.mapdb_rights.specs.Served.{IsServed};
     ghost use Rattle.mapdb_rights.specs.ShownSpaces.{CoverPages, IsShownFrom};
@@ -83,6 +84,17 @@ impl Replica {
                 end: self.end_by_all(space, page),
             },
         }
+    }
+
+    /// Whether it is known that no page of a part of a space is served from anything: no record of
+    /// the space with a right at some page has a place that shares pages with the part. It is never
+    /// known of the first space, nor where there was no memory for the index. It takes no memory.
+    pub fn shows_nothing(&self, space: Space, part: &Fpage) -> bool
+        ensures { result ≡ true → (page : ℕ) → holds part.now page ≡ true
+            → served self.now.ops space page ≡ None }
+    {
+        self.prove_formed();
+        self.index.shows_nothing(&self.facts, space, part)
     }
 
     /// What all pages of a space are served from, as the index tells it. None where the index is

@@ -1,3 +1,4 @@
+pub mod ClearParts
 pub mod FirstRecords
 pub mod FirstWalks
 pub mod FrameRights

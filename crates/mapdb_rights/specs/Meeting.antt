@@ -1,16 +1,14 @@
 -- The records whose places, or whose sources, share pages with a place.
 use Rattle.std.specs.Prelude.{◌≡◌, Bool, ◌&&◌, false, true, List, filter, Option, None, Some}
 use Rattle.std.specs.Prelude.{is_some, if◌then◌else◌}
-use Rattle.std.specs.BTreeMap.{is_at}
-use Rattle.std.specs.List.{list_any}
 use Rattle.mapdb_fpage.specs.Place.{Place, from_page, meet}
-use Rattle.mapdb_facts.specs.Kept.{id_cmp}
 use Rattle.mapdb_facts.specs.Looking.{Holds}
 use Rattle.mapdb_facts.specs.Names.{same_id, same_space}
 use Rattle.mapdb_facts.specs.State.{State}
 use Rattle.mapdb_facts.specs.declared.names.RecordId.{RecordId}
 use Rattle.mapdb_facts.specs.declared.names.Space.{Space}
 use Rattle.mapdb_facts.specs.declared.operations.Record.{Record}
+pub use Rattle.mapdb_lists.specs.Standing.{is_named}
 use Rattle.mapdb_lists.specs.declared.places.Owner.{Owner}
 use Rattle.mapdb_lists.specs.declared.places.Owner.TheVariants as owners
 
@@ -44,10 +42,6 @@ shares_part (owners.Record parent) part r = takes_part parent part r
 abbrev pub record_if : (Record → Bool) → Option Record → Option Record
 record_if test None = None
 record_if test (Some r) = if test r then Some r else None
-
--- the name is one of these
-abbrev pub is_named : List RecordId → RecordId → Bool
-is_named names id = list_any (is_at (id_cmp id)) names
 
 -- a held record that is the owner's and shares pages with the place, and is not among these names
 pub record IsUnnamed (S : State) (names : List RecordId) (owner : Owner) (part : Place) (r : Record)

@@ -22,7 +22,6 @@ mod runs;
 mod served_pages;
 mod settling;
 mod sharing;
-mod short_lists;
 mod shown_spaces;
 mod stale;
 mod stepping;

@@ -62,6 +62,9 @@ pub(crate) fn is_free(copy: &Replica, sender: Space, carried: &Transfer, receive
     ensures { IsTrue result
         ↔ IsFreeTarget (served copy.now.ops) sender (Some carried.now) receiver }
 {
+    if copy.shows_nothing(receiver, &carried.target) {
+        return true;
+    }
     let end = carried.target.end();
     let mut page = carried.target.first_page();
     'pages: while page < end {

@@ -142,12 +142,12 @@ first_shown set start p rest h = record {
 
 -- ---- the first two, in their order
 
-sorted_rest : (p : OwnPlace) (rest : List OwnPlace) → IsStrictlySortedBy place_cmp (p ∷ rest)
+pub sorted_rest : (p : OwnPlace) (rest : List OwnPlace) → IsStrictlySortedBy place_cmp (p ∷ rest)
     → AllByRecursion (λ (y : OwnPlace). place_cmp p y ≡ Less) rest × IsStrictlySortedBy place_cmp rest
 unfolding IsStrictlySortedBy
 sorted_rest p rest h = h
 
-any_below : (q k : OwnPlace) (xs : List OwnPlace) → AllByRecursion (λ (y : OwnPlace). place_cmp q y ≡ Less) xs → stands xs k ≡ true → place_cmp q k ≡ Less
+pub any_below : (q k : OwnPlace) (xs : List OwnPlace) → AllByRecursion (λ (y : OwnPlace). place_cmp q y ≡ Less) xs → stands xs k ≡ true → place_cmp q k ≡ Less
 any_below q k [] all has = absurd (true≢false (sym has))
 any_below q k (x ∷ xs) all has = elim (cases_Bool (is_at (place_cmp k) x)) [
   | inl here ↦ subst (λ (y : OwnPlace). place_cmp q y ≡ Less) (sym (exact_place k x here)) all.0

@@ -66,7 +66,7 @@ from_low first end c k place above meeting =
 before_low : (n first s : ℕ) → 0 < n → s + n ≤ first → s < first - first % n
 before_low n first s some before = omega arith
 
-over_low : (n first s : ℕ) → 0 < n → first - first % n ≤ s → first < s + n
+pub over_low : (n first s : ℕ) → 0 < n → first - first % n ≤ s → first < s + n
 over_low n first s some above = omega arith
 
 fewer_orders : (a b x y : ℕ) → a < b → b ≤ 48 → 1 + 2 * (49 - b) + (1 - x) < 1 + 2 * (49 - a) + (1 - y)

@@ -27,6 +27,7 @@ use Rattle.mapdb_facts.specs.declared.holding.Facts.{Facts}
 use Rattle.mapdb_facts.specs.declared.names.RecordId.{RecordId}
 use Rattle.mapdb_facts.specs.declared.operations.Record.{Record}
 use Rattle.mapdb_facts.proofs.NameLemmas.NamesInOrder.{id_total}
+pub use Rattle.mapdb_lists.proofs.PlaceLemmas.PlaceNames.{named_front, named_last}
 use Rattle.mapdb_rights.specs.AllBut.{IsAllBut}
 use Rattle.mapdb_rights.specs.Meeting.{is_named, record_if}
 use Rattle.mapdb_rights.proofs.Lists.AllBut.{all_but_failing}
@@ -176,19 +177,6 @@ named_among id [] k = absurd k
 named_among id (other ∷ names) (inl e) =
     ap (λ (b : Bool). b || is_named names id) (id_at id other ∙ ap (λ (o : RecordId). same_id id o) e ∙ same_id_itself id)
 named_among id (other ∷ names) (inr k) = or_right (is_at (id_cmp id) other) (is_named names id) (named_among id names k)
-
--- what is named among some is named among more
-pub named_front : (id : RecordId) (names more : List RecordId) → is_named names id ≡ true → is_named (names ++ more) id ≡ true
-named_front id [] more h = absurd (false≢true h)
-named_front id (other ∷ names) more h = or_both (is_at (id_cmp id) other) (is_named names id) (is_named (names ++ more) id) (named_front id names more) h
-  where
-    or_both : (a b c : Bool) → (b ≡ true → c ≡ true) → (a || b) ≡ true → (a || c) ≡ true
-    or_both true b c f h = refl
-    or_both false b c f h = f h
-
-pub named_last : (id : RecordId) (names : List RecordId) (last : RecordId) → last ≡ id → is_named (names ++ last ∷ []) id ≡ true
-named_last id [] last e = named_among id (last ∷ []) (inl e)
-named_last id (other ∷ names) last e = or_right (is_at (id_cmp id) other) (is_named (names ++ last ∷ []) id) (named_last id names last e)
 
 -- nothing is named behind the last
 pub none_from : (names : List RecordId) (i : ℕ) (id : RecordId) → length names ≤ i → is_named (drop i names) id ≡ true → ⊥

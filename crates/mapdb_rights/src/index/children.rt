@@ -14,11 +14,10 @@ ghost use Rattle.mapdb_rights.specs.HeldPlaces.{place_of, source_of};
 ghost use Rattle.mapdb_rights.specs.Pending.{IsPending, share, weight};
 ghost use Rattle.mapdb_rights.specs.Right.{source_page};
 
-use super::short_lists::add_item;
 use super::stale::Stale;
 use mapdb_facts::{Facts, Record, RecordId, Space};
 use mapdb_fpage::PAGE_LIMIT;
-use mapdb_lists::{OwnPlaces, Owner, Places, Sweep};
+use mapdb_lists::{OwnPlaces, Owner, Places, Sweep, add_item};
 use smallvec::SmallVec;
 use std::alloc::AllocError;
 
@@ -53,6 +52,7 @@ fn push_child(
 }
 
 /// The pages of a child, if it is one of this parent, join what is stale.
+#[inline(always)]
 fn push_held(
     stack: &mut SmallVec<Stale, 1>,
     facts: &Facts,
@@ -108,6 +108,7 @@ fn push_many_sources(
 
 /// The children of the parent that these places are the sources of: their pages that come from
 /// these pages join what is stale.
+#[inline(always)]
 fn push_sources(
     stack: &mut SmallVec<Stale, 1>,
     own: &OwnPlaces,

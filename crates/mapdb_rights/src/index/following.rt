@@ -14,7 +14,7 @@ use super::settling::settle;
 use super::stale::Stale;
 use super::unlisting::unlist;
 use mapdb_facts::{Facts, Record, Revocation, Space};
-use mapdb_lists::{AllChanges, Places};
+use mapdb_lists::{AllChanges, Places, add_item};
 use smallvec::SmallVec;
 use std::alloc::{AllocError, Global};
 
@@ -34,11 +34,12 @@ pub fn follow_record(
 {
     list_came(listed, facts, mapping)?;
     let mut stack = SmallVec::new(alloc);
-    stack.push(Stale {
+    let stale = Stale {
         id: mapping.id,
         first: mapping.place.first_page(),
         end: mapping.place.end(),
-    })?;
+    };
+    add_item(&mut stack, stale)?;
     let mut idle = SmallVec::new(alloc);
     settle(changes, live, &mut idle, &mut stack, listed, facts)?;
     note_without_rights(&mut idle, changes, mapping)?;
@@ -61,11 +62,12 @@ pub fn follow_cut(
     ensures { OnOk result (Stands changes.new listed.new live.new (state_of_facts facts.now)) }
 {
     let mut stack = SmallVec::new(alloc);
-    stack.push(Stale {
+    let stale = Stale {
         id: cut.target,
         first: cut.part.first_page(),
         end: cut.part.end(),
-    })?;
+    };
+    add_item(&mut stack, stale)?;
     let mut idle = SmallVec::new(alloc);
     settle(changes, live, &mut idle, &mut stack, listed, facts)?;
     list_idle(listed, facts, idle.as_slice())?;

@@ -16,11 +16,12 @@ ghost use Rattle.mapdb_rights.specs.Meeting.{is_named};
 
 use super::listing::{list_place, place_of};
 use mapdb_facts::{Facts, Record, RecordId};
-use mapdb_lists::{AllChanges, Places, has_rights};
+use mapdb_lists::{AllChanges, Places, add_item, has_rights};
 use smallvec::SmallVec;
 use std::alloc::AllocError;
 
 /// Notes the name of a record, unless it has a right at some page. An error where memory ran out.
+#[inline(always)]
 pub(crate) fn note_without_rights(
     idle: &mut SmallVec<RecordId, 1>,
     changes: &AllChanges,
@@ -34,8 +35,7 @@ pub(crate) fn note_without_rights(
     if has_rights(changes, mapping.id) {
         return Ok(());
     }
-    idle.push(mapping.id)?;
-    Ok(())
+    add_item(idle, mapping.id)
 }
 
 /// Notes the names of all held records without rights. An error where memory ran out.
@@ -69,6 +69,7 @@ fn list_under(listed: &mut Places, facts: &Facts, id: RecordId) -> Result<(), Al
 }
 
 /// Lists the places of the records whose names are noted. An error where memory ran out.
+#[inline(always)]
 pub(crate) fn list_idle(
     listed: &mut Places,
     facts: &Facts,

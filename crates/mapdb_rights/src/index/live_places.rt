@@ -20,7 +20,7 @@ use super::runs::has_some;
 use super::stale::Stale;
 use mapdb_facts::{Facts, RecordId};
 use mapdb_fpage::Rights;
-use mapdb_lists::{AllChanges, Places};
+use mapdb_lists::{AllChanges, Places, add_item};
 use smallvec::SmallVec;
 use std::alloc::AllocError;
 
@@ -88,6 +88,5 @@ pub(crate) fn follow_live(
         return list_live(live, facts, run.id);
     }
     unlist_live(live, facts, run.id);
-    idle.push(run.id)?;
-    Ok(())
+    add_item(idle, run.id)
 }

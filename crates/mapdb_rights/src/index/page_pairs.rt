@@ -28,7 +28,7 @@ fn pair_of(
     ensures { result ≡ pair_at (state_of_facts facts.now) id page }
 {
     let change = seen_at(changes, id, page);
-    if change.rights.is_none() {
+    if change.is_none() {
         return None;
     }
     Some((change.frame(page), change.rights))

@@ -172,7 +172,7 @@ impl RightsIndex {
             return None;
         }
         let change = seen_at(&self.changes, id, page);
-        if change.rights.is_none() {
+        if change.is_none() {
             return Some(None);
         }
         Some(Some((change.frame(page), change.rights)))

@@ -35,7 +35,7 @@ fn run_start(changes: &AllChanges, id: RecordId, page: u64) -> Option<u64>
     let mut start = page;
     'pages: while start < PAGE_LIMIT {
         let own = stretch_at(changes, id, start);
-        if !own.change.rights.is_none() {
+        if !own.change.is_none() {
             return Some(start);
         }
         start = own.end;

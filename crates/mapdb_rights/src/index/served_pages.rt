@@ -5,7 +5,8 @@ use super::first_until::first_until;
 use super::frame_rights::frame_rights;
 use super::rights_index::RightsIndex;
 use mapdb_facts::{Facts, Space};
-use mapdb_fpage::Rights;
+use mapdb_fpage::{Fpage, Rights};
+use mapdb_lists::Owner;
 
 /// Pages of a space, from one on, over which what they are served from goes on: nothing at any of
 /// them, or frames that rise by one with each page, with equal rights. Pages and frames are
@@ -22,9 +23,10 @@ pub struct SteadyPages {
 }
 
 impl RightsIndex {
-    ghost use Rattle.std.specs.Prelude.{◌≡◌, ◌<◌, ◌≤◌, None, IfSome, IsSome, true, false};
+    ghost use Rattle.std.specs.Prelude.{◌≡◌, ◌<◌, ◌≤◌, ℕ, None, IfSome, IsSome, true, false};
     ghost use Rattle.mapdb_facts.specs.Facts.{state_of_facts};
     ghost use Rattle.mapdb_fpage.specs.Bounds.{page_limit};
+    ghost use Rattle.mapdb_fpage.specs.Place.{holds};
     ghost use Rattle.mapdb_rights.specs.First.{IsFirstOfAll};
     ghost use Rattle.mapdb_rights.specs.Index.{KeepsUp};
     ghost use Rattle.mapdb_rights.specs.Live.{ShowUntil};
@@ -98,5 +100,22 @@ impl RightsIndex {
             served: self.served_by(facts, space, page, found.first),
             end: found.end,
         })
+    }
+
+    /// Whether no page of a part of the space is served from anything: no record of the space with
+    /// a right at some page has a place that shares pages with the part. Where the index is absent,
+    /// and of the first space, it does not tell, and says no. It takes no memory.
+    pub fn shows_nothing(&self, facts: &Facts, space: Space, part: &Fpage) -> bool
+        requires { KeepsUp self.now (state_of_facts facts.now) }
+        ensures { result ≡ true → (page : ℕ) → holds part.now page ≡ true
+            → IsServed (state_of_facts facts.now) space page None }
+    {
+        if self.absent || space.is_first() {
+            return false;
+        }
+        match self.live.own(Owner::Space(space)) {
+            Some(own) => !own.any_meets(part.first_page(), part.end()),
+            None => true,
+        }
     }
 }

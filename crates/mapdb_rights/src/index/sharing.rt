@@ -18,58 +18,11 @@ ghost use Rattle.mapdb_lists.specs.declared.places.Listed.{Listed};
 ghost use Rattle.mapdb_rights.specs.AllBut.{IsAllBut};
 ghost use Rattle.mapdb_rights.specs.Meeting.{IsUnnamed, is_named, record_if, shares_part};
 
-use super::short_lists::add_item;
 use mapdb_facts::{Facts, Record, RecordId};
 use mapdb_fpage::Fpage;
-use mapdb_lists::{OwnPlaces, Owner, Places, Sweep};
+use mapdb_lists::{Owner, Places, add_item};
 use smallvec::SmallVec;
 use std::alloc::{AllocError, Global};
-
-/// Adds the names of those of many places that meet the pages from `first` on up to before `end`.
-fn add_many_names(
-    names: &mut SmallVec<RecordId, 1>,
-    own: &OwnPlaces,
-    first: u64,
-    end: u64,
-) -> Result<(), AllocError>
-    requires { AreAligned (own_list own.now) }
-    ensures kept { OnOk result ((id : RecordId) → is_named names.old.items id ≡ true
-        → is_named names.new.items id ≡ true) }
-    ensures named { OnOk result ((p : OwnPlace) → stands (own_list own.now) p ≡ true
-        → own_meets p first end ≡ true → is_named names.new.items p.id ≡ true) }
-{
-    let mut sweep = Sweep::start();
-    'places: while let Some(next) = own.next_place(first, end, sweep) {
-        add_item(names, next.place.id)?;
-        sweep = next.sweep;
-    }
-    Ok(())
-}
-
-/// Adds the names of all places that meet the pages from `first` on up to before `end`, as they
-/// come.
-fn add_names_of(
-    names: &mut SmallVec<RecordId, 1>,
-    own: &OwnPlaces,
-    first: u64,
-    end: u64,
-) -> Result<(), AllocError>
-    requires { AreAligned (own_list own.now) }
-    ensures kept { OnOk result ((id : RecordId) → is_named names.old.items id ≡ true
-        → is_named names.new.items id ≡ true) }
-    ensures named { OnOk result ((p : OwnPlace) → stands (own_list own.now) p ≡ true
-        → own_meets p first end ≡ true → is_named names.new.items p.id ≡ true) }
-{
-    let Some(places) = own.few() else {
-        return add_many_names(names, own, first, end);
-    };
-    for place in places {
-        if place.meets(first, end) {
-            add_item(names, place.id)?;
-        }
-    }
-    Ok(())
-}
 
 /// Adds the names of all entries of the owner that meet the pages of a place.
 pub(crate) fn add_names(
@@ -86,7 +39,7 @@ pub(crate) fn add_names(
         → is_named names.new.items e.id ≡ true) }
 {
     match listed.own(owner) {
-        Some(own) => add_names_of(names, own, part.first_page(), part.end()),
+        Some(own) => own.add_names(names, part.first_page(), part.end()),
         None => Ok(()),
     }
 }
@@ -147,7 +100,7 @@ fn named_sharing(
     found.reserve_exact(names.len())?;
     for id in names {
         if let Some(mapping) = record_sharing(facts, owner, part, *id) {
-            found.push(mapping)?;
+            add_item(&mut found, mapping)?;
         }
     }
     Ok(found)

@@ -1,4 +1,4 @@
-use Rattle.std.proofs.Common.{◌∙◌, ◌≤◌, ◌<◌, ◌+◌, arith, sym}
+use Rattle.std.proofs.Common.{◌∙◌, ◌≤◌, ◌<◌, ◌+◌, arith, refl, sym}
 use Rattle.std.proofs.lemmas.Bool.{true≢false}
 use Rattle.mapdb_fpage.specs.Place.{page_total}
 use Rattle.mapdb_fpage.proofs.Meets.{holds_from}
@@ -6,6 +6,9 @@ use Rattle.mapdb_replica.specs.Served.{served}
 use Rattle.mapdb_script.proofs.FreePages.{free_by_none, free_by_nothing, taken_page}
 use Rattle.mapdb_script.proofs.free_pages.is_free.Goals as goal
 use Rattle.mapdb_script.proofs.free_pages.is_free.Goals.{else-is_some-via-else-is_some, else-is_some-via-then-is_some+else-brings_some}
+
+pub returns-then-shows_nothing : goal.returns-then-shows_nothing
+returns-then-shows_nothing c = (λ _. λ number inside _. c.shows_nothing.ensures c.if-shows_nothing.true number inside, λ _. refl)
 
 pub returns-then-brings_some : goal.returns-then-brings_some
 returns-then-brings_some c =

@@ -21,9 +21,9 @@ settle-requires-clause-listed c =
 
 pub settle-requires-clause-settled : goal.settle-requires-clause-settled
 settle-requires-clause-settled c =
-    left_by_op (state_of_facts c.args.facts.now) c.requires.stood.before (Cut c.args.cut.now) (cached_in c.args.changes.now.own.entries) c.push.new.self.items
+    left_by_op (state_of_facts c.args.facts.now) c.requires.stood.before (Cut c.args.cut.now) (cached_in c.args.changes.now.own.entries) c.add_item.new.list.items
     c.requires.stood.is c.requires.stood.stood.shows.rights
-    (λ id page unsettles. rw c.in_ok-push.ensures.ok (pending_last _ _ id page
+    (λ id page unsettles. rw c.in_ok-add_item.ensures (pending_last _ _ id page
     ((λ i. same_id c.args.cut.now.target id && (nat_le (c.first_page.ensures.page i) page && nat_lt page (c.end.ensures.end i)))
     ∙ and_from (same_id c.args.cut.now.target id) (holds c.args.cut.now.part page) unsettles.0 unsettles.1)))
 

@@ -1,4 +1,5 @@
 use Rattle.std.proofs.Common.{◌≡◌, List, inl, inr, refl, subst, sym, true}
+use Rattle.std.proofs.lemmas.Result.{on_ok_weaker}
 use Rattle.mapdb_facts.specs.declared.names.RecordId.{RecordId}
 use Rattle.mapdb_rights.specs.Meeting.{is_named}
 use Rattle.mapdb_rights.proofs.Lists.NamedRecords.{named_front, named_last}
@@ -9,8 +10,12 @@ returns-then-has_rights-clause-noted c = inl (c.has_rights.ensures.some c.if-has
 
 pub returns-clause-noted : goal.returns-clause-noted
 returns-clause-noted c =
-    inr (subst (λ (names : List RecordId). is_named names c.args.mapping.now.id ≡ true) (sym c.in_ok-push.ensures.ok) (named_last c.args.mapping.now.id c.args.idle.now.items c.args.mapping.now.id refl))
+    on_ok_weaker c.add_item.result
+    (λ more. inr (subst (λ (names : List RecordId). is_named names c.args.mapping.now.id ≡ true) (sym more) (named_last c.args.mapping.now.id c.args.idle.now.items c.args.mapping.now.id refl)))
+    c.add_item.ensures
 
 pub returns-clause-kept : goal.returns-clause-kept
-returns-clause-kept c id has =
-    subst (λ (names : List RecordId). is_named names id ≡ true) (sym c.in_ok-push.ensures.ok) (named_front id c.args.idle.now.items _ has)
+returns-clause-kept c =
+    on_ok_weaker c.add_item.result
+    (λ more id has. subst (λ (names : List RecordId). is_named names id ≡ true) (sym more) (named_front id c.args.idle.now.items _ has))
+    c.add_item.ensures

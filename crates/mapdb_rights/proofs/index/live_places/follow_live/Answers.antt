@@ -1,6 +1,7 @@
 use Rattle.std.proofs.Common.{◌≡◌, List, false, subst, sym, ◌∙◌, arith, inl, inr}
 use Rattle.std.proofs.lemmas.Grind.{common_steps}
 use Rattle.std.proofs.lemmas.Bool.{cases_Bool}
+use Rattle.std.proofs.lemmas.Result.{on_ok_weaker}
 use Rattle.mapdb_facts.specs.Facts.{state_of_facts}
 use Rattle.mapdb_facts.specs.declared.names.RecordId.{RecordId}
 use Rattle.mapdb_lists.specs.Changes.{cached_in}
@@ -31,8 +32,9 @@ returns-then-has-clause-live c =
 
 pub returns-clause-live : goal.returns-clause-live
 returns-clause-live c =
-    lists_less (state_of_facts c.args.facts.now) (cached_in c.args.changes.now.own.entries) c.args.live.now c.args.run.id c.args.had_some c.requires.before
-    c.unlist_live.new.live (c.has_some-has.ensures.none c.if-has.false) c.unlist_live.ensures.less c.unlist_live.ensures.gone c.unlist_live.ensures.others
+    on_any c.add_item.result
+    (lists_less (state_of_facts c.args.facts.now) (cached_in c.args.changes.now.own.entries) c.args.live.now c.args.run.id c.args.had_some c.requires.before
+    c.unlist_live.new.live (c.has_some-has.ensures.none c.if-has.false) c.unlist_live.ensures.less c.unlist_live.ensures.gone c.unlist_live.ensures.others)
 
 pub returns-then-has-had_some-clause-noted : goal.returns-then-has-had_some-clause-noted
 returns-then-has-had_some-clause-noted c before none others =
@@ -51,6 +53,9 @@ returns-then-has-clause-noted c =
     (inl (c.has_some-has.ensures.some c.if-has.true)))
 
 pub returns-clause-noted : goal.returns-clause-noted
-returns-clause-noted c before none others =
-    subst (λ (names : List RecordId). StayNoted before c.args.idle.now.items (cached_in c.args.changes.now.own.entries) names) (sym c.in_ok-push.ensures.ok)
-    (noted_more before (cached_in c.args.changes.now.own.entries) c.args.idle.now.items c.args.run.id others)
+returns-clause-noted c =
+    on_ok_weaker c.add_item.result
+    (λ more before none others.
+    subst (λ (names : List RecordId). StayNoted before c.args.idle.now.items (cached_in c.args.changes.now.own.entries) names) (sym more)
+    (noted_more before (cached_in c.args.changes.now.own.entries) c.args.idle.now.items c.args.run.id others))
+    c.add_item.ensures

@@ -11,15 +11,12 @@ const ROOM_FOR_MORE: usize = 7;
 
 /// Adds an item at the end. An error where memory ran out.
 #[inline(always)]
-pub(crate) fn add_item<T: Copy + Default>(
-    list: &mut SmallVec<T, 1>,
-    item: T,
-) -> Result<(), AllocError>
+pub fn add_item<T: Copy + Default>(list: &mut SmallVec<T, 1>, item: T) -> Result<(), AllocError>
     ensures { OnOk result (list.new.items ≡ list.old.items ++ item ∷ []) }
 {
     if list.len() == list.capacity() {
         list.reserve(ROOM_FOR_MORE)?;
     }
-    list.push(item)?;
+    list.push_reserved(item);
     Ok(())
 }
