@@ -1,10 +1,11 @@
 //! Changes written to a list in ascending order of page, by one search.
 
 ghost use Rattle.std.specs.Prelude.{◌≡◌, ◌≤◌, ◌<◌, ◌↔◌, ◌++◌, ◌∷◌, ℕ, Some, None, IfErr, IfNone};
-ghost use Rattle.std.specs.Prelude.{IfOk, IfSome, IsTrue, OnErr, OnOk, get_or, length, slice_set, false};
-ghost use Rattle.std.specs.Prelude.{[], true};
+ghost use Rattle.std.specs.Prelude.{IfOk, IfSome, IsTrue, OnErr, OnOk, [], false, get_or, length};
+ghost use Rattle.std.specs.Prelude.{slice_set, true};
 ghost use Rattle.std.specs.List.{insert};
 ghost use Rattle.std.specs.Option.{unwrap_or};
+ghost use Rattle.smallvec.specs.SmallVec.{HasRoomFor};
 ghost use Rattle.mapdb_lists.specs.Changes.{IsOneForOne, IsRewritten, MovesBack, MovesOn};
 ghost use Rattle.mapdb_lists.specs.Changes.{left_before, no_change};
 ghost use Rattle.mapdb_lists.specs.FewChanges.{listed_rights};
@@ -27,9 +28,21 @@ fn set_at(list: &mut [PageRights], index: usize, next: PageRights)
     list[index] = next;
 }
 
-/// Puts a change in front of those from an index on. A full list gets room for as many changes more
-/// as records mostly get, and not twice its own, as it would by itself. An error where memory ran
-/// out, and then the same changes stand there.
+/// Makes room for one change more. A full list gets room for as many changes more as records mostly
+/// get, and not twice its own, as it would by itself. An error where memory ran out.
+#[inline(always)]
+fn make_room(list: &mut SmallVec<PageRights, 2>) -> Result<(), AllocError>
+    ensures room { OnOk result (HasRoomFor list.new 1) }
+    ensures same { list.new.items ≡ list.old.items }
+{
+    if list.len() == list.capacity() {
+        list.reserve_exact(ROOM_FOR_CHANGES)?;
+    }
+    Ok(())
+}
+
+/// Puts a change in front of those from an index on. An error where memory ran out, and then the
+/// same changes stand there.
 #[inline(always)]
 fn insert_at(
     list: &mut SmallVec<PageRights, 2>,
@@ -40,9 +53,7 @@ fn insert_at(
     ensures ok { OnOk result (list.new.items ≡ insert list.old.items index next) }
     ensures err { OnErr result (list.new.items ≡ list.old.items) }
 {
-    if list.len() == list.capacity() {
-        list.reserve_exact(ROOM_FOR_CHANGES)?;
-    }
+    make_room(list)?;
     list.insert(index, next)?;
     Ok(())
 }
@@ -315,9 +326,7 @@ fn add_change(list: &mut SmallVec<PageRights, 2>, next: PageRights) -> Result<()
     ensures ok { OnOk result (list.new.items ≡ list.old.items ++ next ∷ []) }
     ensures err { OnErr result (list.new.items ≡ list.old.items) }
 {
-    if list.len() == list.capacity() {
-        list.reserve_exact(ROOM_FOR_CHANGES)?;
-    }
+    make_room(list)?;
     list.push_reserved(next);
     Ok(())
 }

@@ -25,13 +25,12 @@ impl ManyPlaces {
     ghost use Rattle.std.specs.BTreeMap.{is_at};
     ghost use Rattle.std.specs.BTreeMap.Range.{is_from_start};
     ghost use Rattle.std.specs.declared.ops.Bound.TheVariants.{Excluded, Included};
+    ghost use Rattle.mapdb_facts.specs.declared.names.RecordId.{RecordId};
     ghost use Rattle.mapdb_lists.specs.OwnPlaces.{AreAligned, HasReached, HasReachedFrom, IsBehind};
     ghost use Rattle.mapdb_lists.specs.OwnPlaces.{IsFirstPlaceWhere, IsLastWhereSaid, IsNameMeeting};
-    ghost use Rattle.mapdb_lists.specs.OwnPlaces.{IsNextPlace};
-    ghost use Rattle.mapdb_lists.specs.OwnPlaces.{found_place, orders_ahead, own_meets, place_cmp};
-    ghost use Rattle.mapdb_lists.specs.OwnPlaces.{spot_place, stands};
+    ghost use Rattle.mapdb_lists.specs.OwnPlaces.{IsNextPlace, found_place, orders_ahead, own_meets};
+    ghost use Rattle.mapdb_lists.specs.OwnPlaces.{place_cmp, spot_place, stands};
     ghost use Rattle.mapdb_lists.specs.Standing.{is_named};
-    ghost use Rattle.mapdb_facts.specs.declared.names.RecordId.{RecordId};
     ghost use Rattle.mapdb_lists.specs.declared.own_places.OwnPlace.{OwnPlace};
 
     /// No places. It takes no memory.

@@ -25,13 +25,6 @@ pub enum OwnChanges {
 }
 
 impl OwnChanges {
-    /// No changes. It takes no memory.
-    pub(crate) fn new(alloc: Global) -> OwnChanges
-        ensures { (page : ℕ) → own_change result page ≡ None }
-    {
-        OwnChanges::Few(FewChanges::new(alloc))
-    }
-
     /// The changes after pages got one where there was none, and this stood before any. An error
     /// where memory ran out.
     #[inline(always)]

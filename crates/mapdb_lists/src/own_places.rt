@@ -7,12 +7,12 @@ ghost use Rattle.std.specs.BTreeMap.Range.{is_from_start};
 ghost use Rattle.std.specs.Option.{option_copied};
 ghost use Rattle.std.specs.Ordering.{is_lt};
 ghost use Rattle.std.specs.declared.ops.Bound.TheVariants.{Excluded, Included};
-ghost use Rattle.mapdb_lists.specs.OwnPlaces.{AreAligned, IsAlignedPlace, IsFirstPlaceWhere};
-ghost use Rattle.mapdb_lists.specs.OwnPlaces.{IsNameMeeting, IsNextPlace, found_place, IsSweptOn, ahead, at_start};
-ghost use Rattle.mapdb_lists.specs.OwnPlaces.{few_list, many_ahead, own_list, own_meets, place_cmp};
-ghost use Rattle.mapdb_lists.specs.OwnPlaces.{stands};
-ghost use Rattle.mapdb_lists.specs.Standing.{is_named};
 ghost use Rattle.mapdb_facts.specs.declared.names.RecordId.{RecordId};
+ghost use Rattle.mapdb_lists.specs.OwnPlaces.{AreAligned, IsAlignedPlace, IsFirstPlaceWhere};
+ghost use Rattle.mapdb_lists.specs.OwnPlaces.{IsNameMeeting, IsNextPlace, IsSweptOn, ahead};
+ghost use Rattle.mapdb_lists.specs.OwnPlaces.{at_start, few_list, found_place, many_ahead, own_list};
+ghost use Rattle.mapdb_lists.specs.OwnPlaces.{own_meets, place_cmp, stands};
+ghost use Rattle.mapdb_lists.specs.Standing.{is_named};
 ghost use Rattle.mapdb_lists.specs.declared.own_places.OwnPlace.{OwnPlace};
 
 use crate::few_places::{few_meet, few_remove, least_inside, least_meeting, next_of_few};

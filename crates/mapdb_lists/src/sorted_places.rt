@@ -136,12 +136,12 @@ impl SortedPlaces {
     ghost use Rattle.std.specs.BTreeMap.{is_at};
     ghost use Rattle.std.specs.BTreeMap.Range.{is_from_start};
     ghost use Rattle.std.specs.declared.ops.Bound.TheVariants.{Excluded, Included};
+    ghost use Rattle.mapdb_facts.specs.declared.names.RecordId.{RecordId};
     ghost use Rattle.mapdb_lists.specs.OwnPlaces.{IsBehind, IsFirstPlaceWhere, IsNameFrom};
     ghost use Rattle.mapdb_lists.specs.OwnPlaces.{place_cmp};
     ghost use Rattle.mapdb_lists.specs.OwnPlaces.{spot_place, stands};
     ghost use Rattle.mapdb_lists.specs.Standing.{is_named};
     ghost use Rattle.mapdb_lists.specs.declared.own_places.OwnPlace.{OwnPlace};
-    ghost use Rattle.mapdb_facts.specs.declared.names.RecordId.{RecordId};
 
     /// No places. It takes no memory.
     pub(crate) fn new(alloc: Global) -> SortedPlaces

@@ -1,8 +1,7 @@
 -- What is seen after pages were to get a change.
 use Rattle.std.proofs.Common.{◌≡◌, ℕ, ◌<◌, ◌≤◌, Bool, true, false, refl, sym, ap, subst, ◌∙◌, arith, inl, inr}
 use Rattle.std.specs.Prelude.{Option, Some, None, if◌then◌else◌}
-use Rattle.std.specs.Option.{is_some}
-use Rattle.std.proofs.lemmas.Bool.{cases_Bool, cond-false, cond-true, false≢true, lt-ltb}
+use Rattle.std.proofs.lemmas.Bool.{cases_Bool, cond-false, cond-true, lt-ltb}
 use Rattle.std.proofs.lemmas.Bool.Decides.{nat_tests}
 use Rattle.mapdb_fpage.specs.Bounds.{page_limit}
 use Rattle.mapdb_fpage.specs.Place.{is_page}
@@ -25,16 +24,6 @@ pub stretch_left : (at : ℕ → Option Change) (before : Change) (page : ℕ) (
     → (q : ℕ) → page ≤ q → q < stretch.end → changed at before q ≡ stretch.change
 stretch_left at before page stretch h q from up_to =
     changed-stays at before page q from (λ p after until. h.none p after (omega arith)) ∙ sym h.seen
-
--- where nothing had to be given, the changes may stand elsewhere
-pub kept_elsewhere : (old new at : ℕ → Option Change) (before : Change) (first end : ℕ) (change : Change) (had_some : Option Bool)
-    → is_some had_some ≡ false → ((q : ℕ) → old q ≡ at q) → IsOutcome old before first end change new had_some
-    → IsOutcome at before first end change at had_some
-kept_elsewhere old new at before first end change None _ same kept = record {
-  rights = ap (λ (c : Change). c.rights) (sym (changed-same old at before first (λ q _. same q))) ∙ kept.rights;
-  same = λ page. refl;
-}
-kept_elsewhere old new at before first end change (Some had_some) none same kept = absurd (false≢true (sym none))
 
 -- what the changes of a record leave is seen of it
 module _ (old : PageChanges) (id : RecordId) where
