@@ -43,14 +43,14 @@ def without(pattern: str) -> Change:
 # Name, what is told, and the change.
 CHANGES = [
     ("a part that is not what stands", "refused allocation .*contract says: take: wrong",
-     respelled("^take: refused 8.*", "take: wrong", ALONE)),
+     respelled("^take: refused 7.*", "take: wrong", ALONE)),
     ("a part more than can stand", "refused allocation .*contract says: map: refused 4,",
      respelled("^map: refused 3,", "map: refused 4,", ALONE)),
     ("a part that is told as a later one", "parts that stand: .* there is unmap 3, .* unmap 2",
      respelled("^unmap: refused 1,", "unmap: refused 3,", ALONE, ONWARD)),
     ("a part that is another where there is memory later", "refused allocation .*: unmap 4, and "
-     "with all behind refused too unmap 3",
-     respelled("^unmap: refused 3,", "unmap: refused 4,", ALONE)),
+     "with all behind refused too unmap 2",
+     respelled("^unmap: refused 2,", "unmap: refused 4,", ALONE)),
     ("a call that is refused again", "refused allocation .*contract says: cluster: .*again refused",
      respelled("^cluster: (.*) again whole", r"cluster: \1 again refused 0", ALONE)),
     ("a tree that goes on", "refused allocation .*contract says: tree: .*again whole",
@@ -61,8 +61,8 @@ CHANGES = [
      respelled("^table: unmade", "table: whole", ONWARD)),
     ("a refusal that is not met", "^libraries: node: was refused behind these .* parts: ..$",
      respelled("^node: refused .*", "node: whole", ALONE, ONWARD)),
-    ("a number of parts that is not met", "^libraries: take: was refused behind .* 11.$",
-     without("^take: refused 12,")),
+    ("a number of parts that is not met", "^libraries: take: was refused behind .* 9.$",
+     without("^take: refused 11,")),
     ("parts between that are not met", "^libraries: map: was refused behind .*: .0, 3.$",
      without("^map: refused [12],")),
     ("a thread that is refused, and a case without", "refused thread .*says: table: refused",

@@ -19,7 +19,8 @@ use crate::merge::{Merge, MergeFault};
 pub use bounds::{BITS_LIMIT, RUN_LIMIT};
 pub use region::Region;
 use regions::{add_region, has_over};
-use starts::{Start, bits_at, copy_of, least_run};
+use smallvec::SmallVec;
+use starts::{Starts, bits_at, copy_of, least_run};
 use std::alloc::{AllocError, Global};
 use std::marker::Model;
 use walks::{covers_all, merge_all};
@@ -29,7 +30,7 @@ use walks::{covers_all, merge_all};
 #[derive(Debug, Drop)]
 pub struct Runs {
     alloc: Global,
-    starts: Vec<Start>,
+    starts: Starts,
 }
 
 impl Model for Runs {
@@ -51,7 +52,7 @@ impl Runs {
     {
         Runs {
             alloc,
-            starts: Vec::new(alloc),
+            starts: SmallVec::new(alloc),
         }
     }
 

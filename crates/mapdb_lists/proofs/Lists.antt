@@ -1,3 +1,4 @@
 pub mod Entries
+pub mod LastTwo
 pub mod ListedOrder
 pub mod Results

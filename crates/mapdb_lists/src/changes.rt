@@ -1,6 +1,8 @@
 //! What records have at pages, kept as the pages from which something else stands.
 
 ghost use Rattle.std.specs.Prelude.{◌≡◌, ◌≤◌, ◌<◌, ◌+◌, ℕ, None, IfOk, [], false, true};
+ghost use Rattle.std.specs.Map.{lookup};
+ghost use Rattle.mapdb_facts.specs.Names.{same_id};
 ghost use Rattle.mapdb_fpage.specs.RightSets.{is_empty};
 ghost use Rattle.mapdb_lists.specs.Changes.{IsStretch, at_first, cached_in, change_at};
 ghost use Rattle.mapdb_lists.specs.Changes.{past_the_end, seen_in};
@@ -225,6 +227,68 @@ pub fn unchanged_until(changes: &AllChanges, id: RecordId, page: u64) -> u64
     next_change(changes, id, page)
 }
 
+/// Whether a record has no changes: at each page it has what stands there before any.
+#[inline(always)]
+pub fn is_bare(changes: &AllChanges, id: RecordId) -> bool
+    ensures { result ≡ true → lookup (same_id id) changes.now.own.entries ≡ None }
+{
+    changes.own.get(id).is_none()
+}
+
+/// Gives a change to pages of a record that has none, among all, if it has other rights than stand
+/// there before any. An error where memory ran out.
+#[inline(always)]
+fn begin_among(
+    own_changes: &mut ByName<OwnChanges>,
+    alloc: Global,
+    id: RecordId,
+    first: u64,
+    limit: u64,
+    change: Change,
+) -> Result<Replaced, AllocError>
+    requires some { first < limit }
+    requires limit { limit ≤ PAGE_LIMIT }
+    requires bare { lookup (same_id id) own_changes.old.entries ≡ None }
+    ensures replaced { IfOk result (IsReplacedOf own_changes.old.entries id first limit change
+        own_changes.new.entries) }
+    ensures whole { IfOk result (λ replaced. replaced.end ≡ limit) }
+{
+    let before = first_change(id);
+    if before.rights == change.rights {
+        return Ok(Replaced {
+            end: limit,
+            had_some: None,
+        });
+    }
+    let own = OwnChanges::begun(alloc, before, first, limit, change)?;
+    own_changes.insert(id, own)?;
+    Ok(Replaced {
+        end: limit,
+        had_some: Some(!before.is_none()),
+    })
+}
+
+/// Gives a change to the pages of a record that has none, by number, from `first` on up to before
+/// `limit`, if it has other rights than stand there before any. An error where memory ran out;
+/// nothing is said of the changes then.
+#[inline(always)]
+pub fn begin(
+    changes: &mut AllChanges,
+    id: RecordId,
+    first: u64,
+    limit: u64,
+    change: Change,
+) -> Result<Replaced, AllocError>
+    requires some { first < limit }
+    requires limit { limit ≤ PAGE_LIMIT }
+    requires bare { lookup (same_id id) changes.old.own.entries ≡ None }
+    ensures replaced { IfOk result (IsReplacedIn changes.old.own.entries id first limit change
+        changes.new.own.entries) }
+    ensures whole { IfOk result (λ replaced. replaced.end ≡ limit) }
+{
+    begin_among(&mut changes.own, changes.alloc, id, first, limit, change)
+}
+
 /// Gives a change to pages of a record among all, as far as one stands there. The record's changes
 /// are looked up once. An error where memory ran out.
 #[inline(always)]
@@ -241,22 +305,10 @@ fn replace_among(
     ensures { IfOk result (IsReplacedOf own_changes.old.entries id first limit change
         own_changes.new.entries) }
 {
-    let before = first_change(id);
     if let Some(at) = own_changes.places.get(id) {
-        return own_changes.values[at].replace(alloc, before, first, limit, change);
+        return own_changes.values[at].replace(alloc, first_change(id), first, limit, change);
     }
-    if before.rights == change.rights {
-        return Ok(Replaced {
-            end: limit,
-            had_some: None,
-        });
-    }
-    let own = OwnChanges::begun(alloc, before, first, limit, change)?;
-    own_changes.insert(id, own)?;
-    Ok(Replaced {
-        end: limit,
-        had_some: Some(!before.is_none()),
-    })
+    begin_among(own_changes, alloc, id, first, limit, change)
 }
 
 /// Gives a change to the pages of a record, by number, from `first` on up to before `limit`, as far

@@ -38,8 +38,8 @@ mod sorted_places;
 mod space_places;
 
 pub use changes::{
-    AllChanges, Change, Replaced, Stretch, cached_at, has_rights, replace, seen_at, stretch_at,
-    unchanged_until,
+    AllChanges, Change, Replaced, Stretch, begin, cached_at, has_rights, is_bare, replace, seen_at,
+    stretch_at, unchanged_until,
 };
 pub use own_places::{NextPlace, OwnPlace, OwnPlaces, Sweep};
 pub use places::{Listed, Owner, Places};

@@ -3,7 +3,7 @@
 ghost use Rattle.std.specs.Prelude.{◌≡◌, ◌≤◌, ◌<◌, ◌↔◌, ◌++◌, ◌∷◌, ℕ, Some, None, IfErr, IfNone};
 ghost use Rattle.std.specs.Prelude.{IfOk, IfSome, IsTrue, OnErr, OnOk, [], false, get_or, length};
 ghost use Rattle.std.specs.Prelude.{slice_set, true};
-ghost use Rattle.std.specs.List.{insert};
+ghost use Rattle.std.specs.List.{insert, remove};
 ghost use Rattle.std.specs.Option.{unwrap_or};
 ghost use Rattle.smallvec.specs.SmallVec.{HasRoomFor};
 ghost use Rattle.mapdb_lists.specs.Changes.{IsOneForOne, IsRewritten, MovesBack, MovesOn};
@@ -58,6 +58,19 @@ fn insert_at(
     Ok(())
 }
 
+/// Takes out the change at an index. Of the last two one goes without moving others.
+#[inline(always)]
+fn take_out(list: &mut SmallVec<PageRights, 2>, index: usize)
+    requires { index < length list.old.items }
+    ensures { list.new.items ≡ remove list.old.items index }
+{
+    if list.len() - index <= 2 {
+        list.swap_remove(index);
+    } else {
+        list.remove(index);
+    }
+}
+
 /// What stands in front of the change at an index, where this stands before any change.
 fn in_front(list: &[PageRights], index: usize, before: Rights) -> Rights
     requires rise { PagesRise list.now }
@@ -92,7 +105,7 @@ fn write_over(
         → listed_rights list.new.items q ≡ listed_rights list.old.items q }
 {
     if rights == in_front(list.as_slice(), index, before) {
-        list.remove(index);
+        take_out(list, index);
         return index;
     }
     set_at(list.as_mut_slice(), index, PageRights { page, rights });
@@ -198,7 +211,7 @@ fn write_end(
     }
     match change_there(list.as_slice(), spot, end) {
         Some(next) if next == rights => {
-            list.remove(spot);
+            take_out(list, spot);
         }
         Some(_) => {}
         None => {

@@ -4,5 +4,6 @@ pub mod Followed
 pub mod IdleRecords
 pub mod LiveRecords
 pub mod Pendings
+pub mod SeenReplaced
 pub mod Settlement
 pub mod Unsettling

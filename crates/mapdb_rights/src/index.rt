@@ -3,6 +3,7 @@
 
 mod building;
 mod children;
+mod coming;
 mod first_records;
 mod first_until;
 mod following;

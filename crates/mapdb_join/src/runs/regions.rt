@@ -1,17 +1,18 @@
 //! Bits that are added over a region of pages.
 ghost use Rattle.std.specs.Prelude.{◌≡◌, ◌∷◌, [], ◌++◌, ◌+◌, ◌≤◌, ◌<◌, List, length};
 ghost use Rattle.std.specs.Prelude.{map, bit_or, IsTrue, ◌↔◌, OnOk, OnErr, IfOk, slice_range};
-ghost use Rattle.std.specs.List.{All, splice};
+ghost use Rattle.std.specs.List.{All, remove_range, splice};
 ghost use Rattle.mapdb_join.specs.Runs.{Ascends, HasOver, IsOver, IsRuns, count_below, last_bits};
 ghost use Rattle.mapdb_join.specs.Tidy.{front, one_run, region, tidy, with_bits};
 ghost use Rattle.mapdb_join.specs.declared.runs.starts.Start.{Start};
 
 use crate::runs::bounds::{BITS_LIMIT, RUN_LIMIT};
-use crate::runs::starts::{Start, bits_before, starts_below};
+use crate::runs::starts::{Start, Starts, bits_before, starts_below};
+use smallvec::SmallVec;
 use std::alloc::{AllocError, Global};
 
 /// Appends a start, where it changes the bits.
-fn put(list: &mut Vec<Start>, before: u8, start: Start) -> Result<(), AllocError>
+fn put(list: &mut Starts, before: u8, start: Start) -> Result<(), AllocError>
     ensures { OnOk result ((xs : List Start) → list.old.items ≡ tidy before xs
         → list.new.items ≡ tidy before (xs ++ start ∷ [])) }
 {
@@ -22,7 +23,7 @@ fn put(list: &mut Vec<Start>, before: u8, start: Start) -> Result<(), AllocError
 }
 
 /// Appends starts, each with the bits added, where they change the bits.
-fn put_all(list: &mut Vec<Start>, before: u8, starts: &[Start], bits: u8) -> Result<(), AllocError>
+fn put_all(list: &mut Starts, before: u8, starts: &[Start], bits: u8) -> Result<(), AllocError>
     ensures { OnOk result ((xs : List Start) → list.old.items ≡ tidy before xs
         → list.new.items ≡ tidy before (xs ++ map (with_bits bits) starts.now)) }
 {
@@ -39,30 +40,38 @@ fn put_all(list: &mut Vec<Start>, before: u8, starts: &[Start], bits: u8) -> Res
     Ok(())
 }
 
+/// Takes out the starts from one index up to another. It takes no memory.
+fn take_away(starts: &mut Starts, low: usize, high: usize)
+    requires { (low ≤ high) × (high ≤ length starts.old.items) }
+    ensures { starts.new.items ≡ remove_range starts.old.items low high }
+{
+    let left = starts.len() - (high - low);
+    starts.as_mut_slice()[low..].rotate_left(high - low);
+    starts.truncate(left);
+}
+
 /// Puts a list in the place of the starts from one index up to another. A list that is as long as
 /// they are is written over them, and takes no memory.
-fn replace(
-    starts: &mut Vec<Start>,
-    low: usize,
-    high: usize,
-    list: Vec<Start>,
-) -> Result<(), AllocError>
+fn replace(starts: &mut Starts, low: usize, high: usize, list: &[Start]) -> Result<(), AllocError>
     requires { (low ≤ high) × (high ≤ length starts.old.items) }
-    ensures ok { OnOk result (starts.new.items ≡ splice starts.old.items low high list.items) }
+    ensures ok { OnOk result (starts.new.items ≡ splice starts.old.items low high list.now) }
     ensures err { OnErr result (starts.new.items ≡ starts.old.items) }
 {
     if list.len() == high - low {
-        starts[low..high].copy_from_slice(list.as_slice());
-    } else {
-        starts.splice(low..high, list)?;
+        starts.as_mut_slice()[low..high].copy_from_slice(list);
+        return Ok(());
     }
+    let behind = starts.len() - high;
+    starts.insert_from_slice(low, list)?;
+    let end = starts.len() - behind;
+    take_away(starts, end - (high - low), end);
     Ok(())
 }
 
 /// Appends the starts from one index up to another, each with the bits added, where they change the
 /// bits.
 fn put_between(
-    list: &mut Vec<Start>,
+    list: &mut Starts,
     before: u8,
     starts: &[Start],
     low: usize,
@@ -84,7 +93,7 @@ struct Change {
     /// Where the starts that stay behind begin.
     high: usize,
     /// What comes between them.
-    list: Vec<Start>,
+    list: Starts,
 }
 
 /// The change that adds bits over a region: its starts with the bits added, and one behind it,
@@ -112,7 +121,7 @@ fn change_over(
     let before = bits_before(0, starts, low);
     let at_first = bits_before(0, starts, inner) | bits;
     let at_end = bits_before(0, starts, high);
-    let mut list = Vec::new(alloc);
+    let mut list = SmallVec::new(alloc);
     put(
         &mut list,
         before,
@@ -133,8 +142,8 @@ fn change_over(
     Ok(Change { low, high, list })
 }
 
-/// Makes one run of an empty list, in memory for it alone. The only error is that memory ran out.
-fn begin_with(starts: &mut Vec<Start>, first: u64, end: u64, bits: u8) -> Result<(), AllocError>
+/// Makes one run of an empty list. The only error is that memory ran out.
+fn begin_with(starts: &mut Starts, first: u64, end: u64, bits: u8) -> Result<(), AllocError>
     requires { starts.old.items ≡ [] }
     ensures ok { OnOk result (starts.new.items ≡ one_run first end bits) }
     ensures err { OnErr result (starts.new.items ≡ starts.old.items) }
@@ -148,7 +157,7 @@ fn begin_with(starts: &mut Vec<Start>, first: u64, end: u64, bits: u8) -> Result
 /// Adds bits to each page of a region that is not empty. The only error is that memory ran out, and
 /// then nothing has changed.
 pub(crate) fn add_over(
-    starts: &mut Vec<Start>,
+    starts: &mut Starts,
     alloc: Global,
     first: u64,
     end: u64,
@@ -165,7 +174,7 @@ pub(crate) fn add_over(
         return begin_with(starts, first, end, bits);
     }
     let Change { low, high, list } = change_over(alloc, starts.as_slice(), first, end, bits)?;
-    replace(starts, low, high, list)?;
+    replace(starts, low, high, list.as_slice())?;
     Ok(())
 }
 
@@ -203,7 +212,7 @@ pub(crate) fn has_over(starts: &[Start], first: u64, end: u64, bits: u8) -> bool
 /// Adds bits to each page of a region that is not empty, and answers whether a page lacked one of
 /// them. The only error is that memory ran out, and then nothing has changed.
 pub(crate) fn add_region(
-    starts: &mut Vec<Start>,
+    starts: &mut Starts,
     alloc: Global,
     first: u64,
     end: u64,

@@ -4,10 +4,14 @@ ghost use Rattle.mapdb_join.specs.Runs.{Ascends, HasNothingFrom, IsLeastRun, IsR
 ghost use Rattle.mapdb_join.specs.Runs.{bits_after, count_below, last_bits};
 
 use crate::runs::bounds::RUN_LIMIT;
+use smallvec::SmallVec;
 use std::alloc::{AllocError, Global};
 
+/// Starts of runs: those of one run take no memory besides.
+pub(crate) type Starts = SmallVec<Start, 2>;
+
 /// The first page of a run, and the bits of each page from there to the next start.
-#[derive(Clone, Copy, Debug, PartialEq, Eq, Drop)]
+#[derive(Clone, Copy, Debug, Default, PartialEq, Eq, Drop)]
 pub(crate) struct Start {
     /// The first page.
     pub(crate) page: u64,
@@ -81,8 +85,8 @@ pub(crate) fn least_run(starts: &[Start], page: u64) -> Option<(u64, u64, u8)>
 }
 
 /// The same starts.
-pub(crate) fn copy_of(alloc: Global, starts: &[Start]) -> Result<Vec<Start>, AllocError>
+pub(crate) fn copy_of(alloc: Global, starts: &[Start]) -> Result<Starts, AllocError>
     ensures { IfOk result (λ copy. copy.items ≡ starts.now) }
 {
-    Vec::from_slice(alloc, starts)
+    SmallVec::from_slice(alloc, starts)
 }

@@ -5,7 +5,7 @@ ghost use Rattle.mapdb_join.specs.Runs.{IsPartlyBoth, IsRuns};
 
 use crate::runs::bounds::{BITS_LIMIT, RUN_LIMIT};
 use crate::runs::regions::{add_region, has_over};
-use crate::runs::starts::{Start, bits_before, starts_below};
+use crate::runs::starts::{Start, Starts, bits_before, starts_below};
 use std::alloc::{AllocError, Global};
 
 /// Whether each page has, of the first list, all bits that it has of the second.
@@ -26,7 +26,7 @@ pub(crate) fn covers_all(mine: &[Start], theirs: &[Start]) -> bool
 /// Adds all runs of the second list to the first. The only error is that memory ran out, and then
 /// each page has its old bits, or those of both.
 pub(crate) fn merge_all(
-    mine: &mut Vec<Start>,
+    mine: &mut Starts,
     alloc: Global,
     theirs: &[Start],
 ) -> Result<(), AllocError>

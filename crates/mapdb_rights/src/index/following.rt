@@ -8,7 +8,8 @@ ghost use Rattle.mapdb_facts.specs.declared.operations.Op.{Op};
 ghost use Rattle.mapdb_rights.specs.Following.{Stood, Stands};
 
 use super::children::push_space;
-use super::idle_places::{list_idle, note_without_rights};
+use super::coming::settle_from;
+use super::idle_places::{list_idle, note_unless_known};
 use super::listing::list_came;
 use super::settling::settle;
 use super::stale::Stale;
@@ -33,16 +34,14 @@ pub fn follow_record(
     ensures { OnOk result (Stands changes.new listed.new live.new (state_of_facts facts.now)) }
 {
     list_came(listed, facts, mapping)?;
-    let mut stack = SmallVec::new(alloc);
-    let stale = Stale {
+    let run = Stale {
         id: mapping.id,
         first: mapping.place.first_page(),
         end: mapping.place.end(),
     };
-    add_item(&mut stack, stale)?;
     let mut idle = SmallVec::new(alloc);
-    settle(changes, live, &mut idle, &mut stack, listed, facts)?;
-    note_without_rights(&mut idle, changes, mapping)?;
+    let has_some = settle_from(changes, live, &mut idle, alloc, listed, facts, run)?;
+    note_unless_known(&mut idle, changes, mapping, has_some)?;
     list_idle(listed, facts, idle.as_slice())
 }
 

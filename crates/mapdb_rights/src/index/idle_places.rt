@@ -12,6 +12,7 @@ ghost use Rattle.mapdb_lists.specs.declared.places.Listed.{Listed};
 ghost use Rattle.mapdb_rights.specs.Following.{AreListed};
 ghost use Rattle.mapdb_rights.specs.HeldPlaces.{place_of};
 ghost use Rattle.mapdb_rights.specs.IdlePlaces.{HasIdle, HasIdleBut, IsNoted};
+ghost use Rattle.mapdb_rights.specs.LivePlaces.{HasSome};
 ghost use Rattle.mapdb_rights.specs.Meeting.{is_named};
 
 use super::listing::{list_place, place_of};
@@ -36,6 +37,26 @@ pub(crate) fn note_without_rights(
         return Ok(());
     }
     add_item(idle, mapping.id)
+}
+
+/// The same where it may be known that the record has a right: then nothing is looked up.
+#[inline(always)]
+pub(crate) fn note_unless_known(
+    idle: &mut SmallVec<RecordId, 1>,
+    changes: &AllChanges,
+    mapping: &Record,
+    has_some: bool,
+) -> Result<(), AllocError>
+    requires { has_some ≡ true → HasSome (cached_in changes.now.own.entries mapping.now.id) }
+    ensures kept { OnOk result ((id : RecordId) → is_named idle.old.items id ≡ true
+        → is_named idle.new.items id ≡ true) }
+    ensures noted { OnOk result (IsNoted (cached_in changes.now.own.entries) idle.new.items
+        mapping.now.id) }
+{
+    if has_some {
+        return Ok(());
+    }
+    note_without_rights(idle, changes, mapping)
 }
 
 /// Notes the names of all held records without rights. An error where memory ran out.

@@ -120,6 +120,19 @@ impl RightsIndex {
         }
     }
 
+    /// Lets go of all that is kept: the index is absent then.
+    fn let_go(&mut self)
+        ensures absent { self.new.absent ≡ true }
+        ensures no_changes { self.new.changes.own.entries ≡ [] }
+        ensures none_listed { (e : Listed) → is_listed self.new.listed e ≡ false }
+        ensures none_live { (e : Listed) → is_listed self.new.live e ≡ false }
+    {
+        self.changes = AllChanges::new(self.alloc);
+        self.listed = Places::new(self.alloc);
+        self.live = Places::new(self.alloc);
+        self.absent = true;
+    }
+
     /// Follows an operation that the facts have by now: they say what they said before, and this.
     /// An error where memory ran out: the index is absent then, and keeps nothing. An absent
     /// index stays as it is, without an error.
@@ -140,10 +153,7 @@ impl RightsIndex {
         match self.follow(facts, op) {
             Ok(()) => Ok(()),
             Err(fault) => {
-                self.changes = AllChanges::new(self.alloc);
-                self.listed = Places::new(self.alloc);
-                self.live = Places::new(self.alloc);
-                self.absent = true;
+                self.let_go();
                 Err(fault)
             }
         }

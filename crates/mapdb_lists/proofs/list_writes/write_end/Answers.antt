@@ -12,7 +12,7 @@ use Rattle.mapdb_lists.proofs.list_writes.write_end.Goals as goal
 
 pub returns-in-Some-clause-rise : goal.returns-in-Some-clause-rise
 returns-in-Some-clause-rise c =
-    subst (λ (l : List PageRights). PagesRise l) (sym c.remove.ensures.items)
+    subst (λ (l : List PageRights). PagesRise l) (sym c.take_out.ensures)
     (remove_rises c.args.list.now.items c.requires.rise c.args.end c.args.spot
     (subst (λ (l : List PageRights). StandsAtPage l c.args.end c.args.spot) c.as_slice.ensures c.in-Some.ensures.there))
 
@@ -20,7 +20,7 @@ pub returns-in-Some-clause-there : goal.returns-in-Some-clause-there
 returns-in-Some-clause-there c inside =
     let xs = c.args.list.now.items in
     ap (λ (o : Option Rights). unwrap_or o c.args.rights)
-    (ap (λ (l : List PageRights). listed_rights l c.args.end) c.remove.ensures.items
+    (ap (λ (l : List PageRights). listed_rights l c.args.end) c.take_out.ensures
     ∙ put_here (listed_rights xs) (listed_rights (remove xs c.args.spot)) c.args.end None
     (removed xs c.requires.rise c.args.spot c.args.end (subst (λ (l : List PageRights). StandsAtPage l c.args.end c.args.spot) c.as_slice.ensures c.in-Some.ensures.there)))
     ∙ sym (rights_same c.eq.result c.in-Some.next c.args.rights c.eq.ensures c.if-eq.true)
@@ -29,14 +29,14 @@ returns-in-Some-clause-there c inside =
 pub returns-in-Some-clause-once : goal.returns-in-Some-clause-once
 returns-in-Some-clause-once c inside known =
     let xs = c.args.list.now.items in
-    ap (λ (l : List PageRights). listed_rights l c.args.end) c.remove.ensures.items
+    ap (λ (l : List PageRights). listed_rights l c.args.end) c.take_out.ensures
     ∙ put_here (listed_rights xs) (listed_rights (remove xs c.args.spot)) c.args.end None
     (removed xs c.requires.rise c.args.spot c.args.end (subst (λ (l : List PageRights). StandsAtPage l c.args.end c.args.spot) c.as_slice.ensures c.in-Some.ensures.there))
 
 pub returns-in-Some-clause-elsewhere : goal.returns-in-Some-clause-elsewhere
 returns-in-Some-clause-elsewhere c q apart =
     let xs = c.args.list.now.items in
-    ap (λ (l : List PageRights). listed_rights l q) c.remove.ensures.items
+    ap (λ (l : List PageRights). listed_rights l q) c.take_out.ensures
     ∙ put_elsewhere (listed_rights xs) (listed_rights (remove xs c.args.spot)) c.args.end None
     (removed xs c.requires.rise c.args.spot c.args.end (subst (λ (l : List PageRights). StandsAtPage l c.args.end c.args.spot) c.as_slice.ensures c.in-Some.ensures.there)) q apart
 

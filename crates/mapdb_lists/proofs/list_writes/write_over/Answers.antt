@@ -15,12 +15,12 @@ use Rattle.mapdb_lists.proofs.list_writes.write_over.Goals as goal
 
 pub returns-then-eq-clause-rise : goal.returns-then-eq-clause-rise
 returns-then-eq-clause-rise c =
-    subst (λ (l : List PageRights). PagesRise l) (sym c.remove.ensures.items)
+    subst (λ (l : List PageRights). PagesRise l) (sym c.take_out.ensures)
     (remove_rises c.args.list.now.items c.requires.rise c.args.page c.args.index c.requires.there)
 
 pub returns-then-eq-clause-spot : goal.returns-then-eq-clause-spot
 returns-then-eq-clause-spot c =
-    subst (λ (l : List PageRights). IsSpot l c.args.page c.args.index) (sym c.remove.ensures.items)
+    subst (λ (l : List PageRights). IsSpot l c.args.page c.args.index) (sym c.take_out.ensures)
     (remove_spot c.args.list.now.items c.requires.rise c.args.page c.args.index c.requires.there)
 
 pub returns-then-eq-clause-there : goal.returns-then-eq-clause-there
@@ -30,7 +30,7 @@ returns-then-eq-clause-there c =
     subst (λ (l : List PageRights). AreInFront l c.args.page c.args.index → c.in_front.result ≡ left_before (listed_rights l) c.args.before c.args.page)
     c.as_slice.ensures (c.in_front.ensures c.args.page) (front_there xs c.requires.rise c.args.page c.args.index c.requires.there) in
     ap (λ (o : Option Rights). unwrap_or o (left_before (listed_rights xs) c.args.before c.args.page))
-    (ap (λ (l : List PageRights). listed_rights l c.args.page) c.remove.ensures.items
+    (ap (λ (l : List PageRights). listed_rights l c.args.page) c.take_out.ensures
     ∙ put_here (listed_rights xs) (listed_rights (remove xs c.args.index)) c.args.page None
     (removed xs c.requires.rise c.args.index c.args.page c.requires.there))
     ∙ sym (rights_same c.eq.result c.args.rights c.in_front.result c.eq.ensures c.if-eq.true ∙ left)
@@ -38,14 +38,14 @@ returns-then-eq-clause-there c =
 pub returns-then-eq-clause-once : goal.returns-then-eq-clause-once
 returns-then-eq-clause-once c same =
     let xs = c.args.list.now.items in
-    ap (λ (l : List PageRights). listed_rights l c.args.page) c.remove.ensures.items
+    ap (λ (l : List PageRights). listed_rights l c.args.page) c.take_out.ensures
     ∙ put_here (listed_rights xs) (listed_rights (remove xs c.args.index)) c.args.page None
     (removed xs c.requires.rise c.args.index c.args.page c.requires.there)
 
 pub returns-then-eq-clause-elsewhere : goal.returns-then-eq-clause-elsewhere
 returns-then-eq-clause-elsewhere c q apart =
     let xs = c.args.list.now.items in
-    ap (λ (l : List PageRights). listed_rights l q) c.remove.ensures.items
+    ap (λ (l : List PageRights). listed_rights l q) c.take_out.ensures
     ∙ put_elsewhere (listed_rights xs) (listed_rights (remove xs c.args.index)) c.args.page None
     (removed xs c.requires.rise c.args.index c.args.page c.requires.there) q apart
 

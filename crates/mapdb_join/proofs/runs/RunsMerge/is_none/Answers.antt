@@ -1,5 +1,4 @@
-use Rattle.std.proofs.Common.{◌∙◌, ap, subst, arith}
-use Rattle.std.specs.Prelude.{◌==◌}
+use Rattle.std.proofs.Common.{subst}
 use Rattle.mapdb_join.specs.Runs.{IsRuns}
 use Rattle.mapdb_join.proofs.Telling.{none_told}
 use Rattle.mapdb_join.proofs.runs.RunsMerge.is_none.Goals as goal
@@ -7,4 +6,4 @@ use Rattle.mapdb_join.proofs.runs.RunsMerge.is_none.Goals as goal
 pub returns : goal.returns
 returns c =
     none_told c.is_empty.result c.args.self.now c.self.inside.starts.items c.self.view_is (subst IsRuns c.self.view_is c.self.invariant)
-    (c.is_empty.ensures ∙ ap (λ n. n == 0) (omega (arith, c.self.inside.starts.ok.0)))
+    c.is_empty.ensures

@@ -12,10 +12,10 @@ whole before xs ys n r e l h =
 
 pub returns-in_ok-push : goal.returns-in_ok-push
 returns-in_ok-push c =
-    let w = whole c.args.before c.args.list.now.items c.as_slice.result.now c.len.result c.bits_before.result c.as_slice.ensures.value (omega (arith, c.args.list.now.ok.0)) c.bits_before.ensures in
-    λ xs e. c.in_ok-push.ensures.items ∙ put_new c.args.before xs c.args.list.now.items c.args.start e (λ h. c.if-bits_before-start.true (sym w ∙ h))
+    let w = whole c.args.before c.args.list.now.items c.as_slice.result.now c.len.result c.bits_before.result c.as_slice.ensures c.len.ensures.value c.bits_before.ensures in
+    λ xs e. c.in_ok-push.ensures.ok ∙ put_new c.args.before xs c.args.list.now.items c.args.start e (λ h. c.if-bits_before-start.true (sym w ∙ h))
 
 pub returns-else-bits_before-start : goal.returns-else-bits_before-start
 returns-else-bits_before-start c =
-    let w = whole c.args.before c.args.list.now.items c.as_slice.result.now c.len.result c.bits_before.result c.as_slice.ensures.value (omega (arith, c.args.list.now.ok.0)) c.bits_before.ensures in
+    let w = whole c.args.before c.args.list.now.items c.as_slice.result.now c.len.result c.bits_before.result c.as_slice.ensures c.len.ensures.value c.bits_before.ensures in
     λ xs e. put_same c.args.before xs c.args.list.now.items c.args.start e (w ∙ c.if-bits_before-start.false)

@@ -1,14 +1,12 @@
-use Rattle.std.proofs.Common.{◌≡◌, ℕ, Some, ap, sym, subst, ◌∙◌, arith, inl, inr}
-use Rattle.std.specs.Prelude.{Bool, None, Option}
+use Rattle.std.proofs.Common.{◌≡◌, Some, ap, sym, subst, ◌∙◌, arith, inl, inr}
 use Rattle.std.proofs.lemmas.Bool.{and_left, cond-false, cond-true}
 use Rattle.std.proofs.lemmas.Result.{on_ok_weaker}
 use Rattle.mapdb_facts.specs.Facts.{state_of_facts}
 use Rattle.mapdb_facts.specs.State.{State}
 use Rattle.mapdb_facts.specs.declared.names.RecordId.{RecordId}
 use Rattle.mapdb_fpage.specs.RightSets.{is_empty}
-use Rattle.mapdb_lists.specs.Changes.{Cached, PageChanges, cached_in, covers}
+use Rattle.mapdb_lists.specs.Changes.{Cached, cached_in, covers}
 use Rattle.mapdb_lists.specs.Listing.{listed_len}
-use Rattle.mapdb_lists.specs.Replacing.{IsSeenOverwritten, IsSeenUnchanged, IsSeenReplaced}
 use Rattle.mapdb_lists.specs.declared.changes.Change.{Change}
 use Rattle.mapdb_lists.proofs.Lists.Results.{on_any, on_both}
 use Rattle.mapdb_rights.specs.CachedFrames.{HasFrame}
@@ -17,6 +15,7 @@ use Rattle.mapdb_rights.specs.LivePlaces.{ListsLive}
 use Rattle.mapdb_rights.specs.Pending.{AreSettledBut, IsPending, base_of}
 use Rattle.mapdb_rights.proofs.Rights.FramesFrom.{frames_written}
 use Rattle.mapdb_rights.proofs.Settling.Pendings.{weight-last}
+use Rattle.mapdb_rights.proofs.Settling.SeenReplaced.{got, kept, still}
 use Rattle.mapdb_rights.proofs.Settling.Settlement.{settled_after, settled_already, step_empty, step_settled, to_covers, weight_falls}
 use Rattle.mapdb_rights.proofs.index.settling.settle_next.Goals as goal
 
@@ -27,21 +26,6 @@ returns-then-stale-clause-settled c =
 pub returns-then-stale-clause-weight : goal.returns-then-stale-clause-weight
 returns-then-stale-clause-weight c =
     let last = weight-last (base_of c.args.listed.now) c.args.stack.now.items c.args.stale in omega (arith, last)
-
--- nothing is seen otherwise than before
-kept : {old new : PageChanges} {id : RecordId} {first end : ℕ} {change : Change} {had_some : Option Bool}
-    → had_some ≡ None → IsSeenReplaced old id first end change new had_some → IsSeenUnchanged old id first end change new
-kept {old = old} {new = new} {id = id} {first = first} {end = end} {change = change} none how =
-    subst (λ (had : Option Bool). IsSeenReplaced old id first end change new had) none how
-
-still : {old new : PageChanges} {id : RecordId} {first end : ℕ} {change : Change} → IsSeenUnchanged old id first end change new → cached_in new ≡ cached_in old
-still as_before = λ i. λ other page. (as_before.same other page i).rights
-
--- what is seen where other rights were given
-got : {old new : PageChanges} {id : RecordId} {first end : ℕ} {change : Change} {had_some : Option Bool} {had : Bool}
-    → had_some ≡ Some had → IsSeenReplaced old id first end change new had_some → IsSeenOverwritten old id first end change new had
-got {old = old} {new = new} {id = id} {first = first} {end = end} {change = change} some how =
-    subst (λ (had : Option Bool). IsSeenReplaced old id first end change new had) some how
 
 pub returns-in_default-clause-frames : goal.returns-in_default-clause-frames
 returns-in_default-clause-frames c id page some =
