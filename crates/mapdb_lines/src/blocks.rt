@@ -37,6 +37,7 @@ impl Block {
     }
 
     /// Writes all that waits, or fails with a prefix of it written; the rest waits then.
+    #[cold]
     pub fn flush<W: Sink>(&mut self, writer: &mut W) -> Result<(), Failed>
         ensures told { Passes (W.written writer.old) (W.written writer.new) (waiting self.old)
             (waiting self.new) [] }

@@ -104,6 +104,7 @@ impl Gathering {
 
     /// Moves the bytes ahead into the line, up to the line's end, and says whether it was there.
     /// Where memory runs out, none are moved.
+    #[cold]
     #[tactic(auto, using(crate::proofs::LineLemmas::dropped))]
     fn take_ahead(&mut self) -> Result<bool, AllocError>
         ensures line { OnOk result (gathered self.new
@@ -123,6 +124,7 @@ impl Gathering {
     }
 
     /// Reads the next piece, once nothing is ahead, and says how many bytes it has.
+    #[cold]
     fn refill<R: Source>(&mut self, reader: &mut R) -> Result<usize, Failed>
         requires { ahead_in self.old ≡ [] }
         ensures line { gathered self.new ≡ gathered self.old }
@@ -145,6 +147,7 @@ impl Gathering {
     }
 
     /// Gathers the next line, which [`Gathering::line`] then has, as [`Reading::advance`] does.
+    #[cold]
     pub(crate) fn gather<R: Source>(&mut self, reader: &mut R) -> Result<Progress, ReadFault>
         ensures bytes { (more : List ℕ) × Consumes (R.left reader.old) (R.left reader.new) more
             × IfOk result (λ p. Reads (ahead_in self.old

@@ -22,6 +22,7 @@ mod changes;
 mod few_changes;
 mod few_places;
 mod limits;
+mod list_sweeps;
 mod list_writes;
 mod many_changes;
 mod many_places;

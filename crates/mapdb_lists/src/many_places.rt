@@ -2,6 +2,7 @@
 
 ghost use Rattle.mapdb_lists.specs.Standing.{HaveOrders};
 
+use crate::list_sweeps::list_next;
 use crate::orders::Orders;
 use crate::own_places::{FoundPlace, OwnPlace};
 use crate::place_sets::{Spot, start_of};
@@ -75,7 +76,7 @@ impl ManyPlaces {
         ensures { IsFirstPlaceWhere (is_from_start place_cmp (Excluded after)) self.now.places
             result }
     {
-        let spot = self.places.first_above(after, 0)?;
+        let spot = self.places.first_above(after)?;
         Some(spot.place)
     }
 
@@ -92,9 +93,8 @@ impl ManyPlaces {
         }
     }
 
-    /// The first place above another, where there is one, that may meet the pages. The other may
-    /// stand at the index `at`.
-    fn begin(&self, first: u64, end: u64, after: Option<OwnPlace>, at: usize) -> Option<Spot>
+    /// The first place above another, where there is one, that may meet the pages.
+    fn begin(&self, first: u64, end: u64, after: Option<OwnPlace>) -> Option<Spot>
         requires { AreAligned self.now.places }
         ensures reached { HasReached self.now.places first end after
             (option_map spot_place result) }
@@ -106,7 +106,7 @@ impl ManyPlaces {
         if place.first >= end {
             return self.reach(place.order.saturating_add(1), first);
         }
-        self.places.first_above(place, at)
+        self.places.first_above(place)
     }
 
     /// What comes next that may meet the pages, behind a place that does not: from its order's
@@ -144,7 +144,7 @@ impl ManyPlaces {
     }
 
     /// The least place, above another, that meets the pages from `first` on up to before `end`. The
-    /// other may stand at the index `at`: then it is not searched for.
+    /// other may stand at the index `at` of a list: then it is not searched for there.
     pub(crate) fn next_meeting(
         &self,
         first: u64,
@@ -160,13 +160,15 @@ impl ManyPlaces {
         if first >= end {
             return None;
         }
-        let mut reached = self.begin(first, end, after, at);
+        if let Some(list) = self.places.listed() {
+            return list_next(list, self.orders, first, end, after, at);
+        }
+        let mut reached = self.begin(first, end, after);
         'orders: while let Some(spot) = reached {
             let place = spot.place;
             if place.meets(first, end) {
                 let last = self.is_last(spot, first, end);
-                let at = spot.at;
-                return Some(FoundPlace { place, at, last });
+                return Some(FoundPlace { place, at: 0, last });
             }
             reached = self.pass(place, first, end);
         }

@@ -1,7 +1,7 @@
 //! Places of an owner in a list in ascending order, found by halving it.
 
-ghost use Rattle.std.specs.Prelude.{◌≡◌, ◌≤◌, ◌<◌, ◌&&◌, ◌||◌, IfNone, IfSome, OnOk, OnErr, length};
-ghost use Rattle.std.specs.Prelude.{option_map, false, get_or, not, true};
+ghost use Rattle.std.specs.Prelude.{◌≡◌, ◌≤◌, ◌<◌, ◌&&◌, ◌||◌, IfSome, OnOk, OnErr, length};
+ghost use Rattle.std.specs.Prelude.{option_map, false, get_or, not, slice_get, true};
 ghost use Rattle.std.specs.BTreeMap.{is_at};
 ghost use Rattle.std.specs.BTreeMap.Range.{is_from_start};
 ghost use Rattle.std.specs.List.Sorted.{IsPartitionPoint};
@@ -19,21 +19,19 @@ use std::alloc::AllocError;
 /// The place at an index, and the one behind it.
 fn spot_at(list: &[OwnPlace], index: usize) -> Option<Spot>
     requires { Ascend list.now }
-    ensures none { IfNone result (length list.now ≤ index) }
-    ensures here { IfSome result (λ spot. IsAtIndex list.now index spot.place) }
+    ensures here { option_map spot_place result ≡ slice_get list.now index }
     ensures behind { IfSome result (IsBehind list.now) }
 {
     if index >= list.len() {
         return None;
     }
     let place = list[index];
-    let at = index;
     if index + 1 < list.len() {
         let next = Some(list[index + 1]);
-        Some(Spot { place, next, at })
+        Some(Spot { place, next })
     } else {
         let next = None;
-        Some(Spot { place, next, at })
+        Some(Spot { place, next })
     }
 }
 
@@ -47,6 +45,28 @@ pub(crate) fn index_for(list: &[OwnPlace], place: OwnPlace) -> usize
     list.partition_point(|other| other.is_before(&place))
 }
 
+/// Where the least place from one on stands: the list's length where there is none.
+pub(crate) fn index_from(list: &[OwnPlace], from: OwnPlace) -> usize
+    requires { Ascend list.now }
+    ensures { IsFirstPlaceWhere (is_from_start place_cmp (Included from)) list.now
+        (slice_get list.now result) }
+{
+    index_for(list, from)
+}
+
+/// Where the least place above one stands: the list's length where there is none. Where that one
+/// stands at the index `at`, no search is needed.
+pub(crate) fn index_above(list: &[OwnPlace], after: OwnPlace, at: usize) -> usize
+    requires { Ascend list.now }
+    ensures { IsFirstPlaceWhere (is_from_start place_cmp (Excluded after)) list.now
+        (slice_get list.now result) }
+{
+    if is_there(list, at, after) {
+        return at + 1;
+    }
+    list.partition_point(|place| !after.is_before(place))
+}
+
 /// The least place from one on, and the one behind it.
 pub(crate) fn list_from(list: &[OwnPlace], from: OwnPlace) -> Option<Spot>
     requires { Ascend list.now }
@@ -54,22 +74,17 @@ pub(crate) fn list_from(list: &[OwnPlace], from: OwnPlace) -> Option<Spot>
         (option_map spot_place result) }
     ensures behind { IfSome result (IsBehind list.now) }
 {
-    spot_at(list, index_for(list, from))
+    spot_at(list, index_from(list, from))
 }
 
-/// The least place above one, and the one behind it. Where that one stands at the index `at`, no
-/// search is needed.
-pub(crate) fn list_above(list: &[OwnPlace], after: OwnPlace, at: usize) -> Option<Spot>
+/// The least place above one, and the one behind it.
+pub(crate) fn list_above(list: &[OwnPlace], after: OwnPlace) -> Option<Spot>
     requires { Ascend list.now }
     ensures least { IsFirstPlaceWhere (is_from_start place_cmp (Excluded after)) list.now
         (option_map spot_place result) }
     ensures behind { IfSome result (IsBehind list.now) }
 {
-    if is_there(list, at, after) {
-        return spot_at(list, at + 1);
-    }
-    let index = list.partition_point(|place| !after.is_before(place));
-    spot_at(list, index)
+    spot_at(list, index_above(list, after, 0))
 }
 
 /// Whether a place stands at an index.

@@ -19,9 +19,6 @@ pub struct Spot {
     pub place: OwnPlace,
     /// The least one above it.
     pub next: Option<OwnPlace>,
-    /// Where it stands, if the set is a list; else 0. It saves a search, and is looked at again
-    /// where it is used.
-    pub at: usize,
 }
 
 /// Where the place of an order that holds a page begins.
@@ -51,12 +48,10 @@ pub(crate) fn set_from(set: &BTreeSet<OwnPlace>, from: OwnPlace) -> Option<Spot>
         Some(next) => Some(Spot {
             place: *place,
             next: Some(*next),
-            at: 0,
         }),
         None => Some(Spot {
             place: *place,
             next: None,
-            at: 0,
         }),
     }
 }
@@ -75,12 +70,10 @@ pub(crate) fn set_above(set: &BTreeSet<OwnPlace>, after: OwnPlace) -> Option<Spo
         Some(next) => Some(Spot {
             place: *place,
             next: Some(*next),
-            at: 0,
         }),
         None => Some(Spot {
             place: *place,
             next: None,
-            at: 0,
         }),
     }
 }

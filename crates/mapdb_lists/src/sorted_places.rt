@@ -133,6 +133,7 @@ impl Model for SortedPlaces {
 impl SortedPlaces {
     ghost use Rattle.std.specs.Prelude.{◌≡◌, ◌<◌, ◌&&◌, ◌||◌, IfSome, OnErr, OnOk, [], not};
     ghost use Rattle.std.specs.Prelude.{◌⊎◌, option_map, true};
+    ghost use Rattle.mapdb_lists.specs.Ascending.{Ascend};
     ghost use Rattle.std.specs.BTreeMap.{is_at};
     ghost use Rattle.std.specs.BTreeMap.Range.{is_from_start};
     ghost use Rattle.std.specs.declared.ops.Bound.TheVariants.{Excluded, Included};
@@ -170,6 +171,16 @@ impl SortedPlaces {
         remove(&mut self.kept, place)
     }
 
+    /// These places, where they stand in a list.
+    pub(crate) fn listed(&self) -> Option<&[OwnPlace]>
+        ensures { IfSome result (λ list. (list.now ≡ self.now) × Ascend list.now) }
+    {
+        match &self.kept {
+            KeptPlaces::Listed(list) => Some(list.as_slice()),
+            KeptPlaces::Tree(_) => None,
+        }
+    }
+
     /// The least place from one on, and the one behind it.
     pub(crate) fn first_from(&self, from: OwnPlace) -> Option<Spot>
         ensures least { IsFirstPlaceWhere (is_from_start place_cmp (Included from)) self.now
@@ -182,15 +193,14 @@ impl SortedPlaces {
         }
     }
 
-    /// The least place above one, and the one behind it. Where that one stands at the index `at` of
-    /// a list, no search is needed.
-    pub(crate) fn first_above(&self, after: OwnPlace, at: usize) -> Option<Spot>
+    /// The least place above one, and the one behind it.
+    pub(crate) fn first_above(&self, after: OwnPlace) -> Option<Spot>
         ensures least { IsFirstPlaceWhere (is_from_start place_cmp (Excluded after)) self.now
             (option_map spot_place result) }
         ensures behind { IfSome result (IsBehind self.now) }
     {
         match &self.kept {
-            KeptPlaces::Listed(list) => list_above(list.as_slice(), after, at),
+            KeptPlaces::Listed(list) => list_above(list.as_slice(), after),
             KeptPlaces::Tree(tree) => set_above(tree, after),
         }
     }

@@ -10,6 +10,7 @@ use mapdb_rights::RightsIndex;
 use std::alloc::Global;
 
 /// Builds an index that is absent whole, if there is memory for it.
+#[cold]
 fn rebuild(index: &mut RightsIndex, alloc: Global, facts: &Facts)
     requires { index.old.absent ≡ true }
     ensures { KeepsUp index.new (state_of_facts facts.now) }

@@ -119,6 +119,7 @@ impl ScriptCluster {
     }
 
     /// Asks the sequential tree of processor 0's commands for a page.
+    #[cold]
     pub(crate) fn tree(
         &self,
         shows_tree: bool,

@@ -44,6 +44,7 @@ impl ScriptCluster {
     }
 
     /// Keeps a message behind those that were sent before. An error where memory ran out.
+    #[cold]
     fn post(&mut self, sending: Sending) -> Result<(), AllocError>
         requires { IsSent self.old.copies.items sending }
         ensures { OnOk result (net_of self.new ≡ with_message (net_of self.old)
@@ -55,6 +56,7 @@ impl ScriptCluster {
 
     /// Sends a message with the operations of a processor's copy, from the mark `first` on and up
     /// to before the mark `end`.
+    #[cold]
     pub(crate) fn send(&mut self, at: u8, first: u32, end: u32) -> Result<Reply, TurnFault>
         ensures { (accepted : Accepted) → Does result (net_of self.new)
             (happened (beside self.old accepted) (event.Send at first end)) }
@@ -80,6 +82,7 @@ impl ScriptCluster {
 
     /// Has a copy take what one of them sent, behind what it is known to hold of it, and notes what
     /// it holds then.
+    #[cold]
     fn take(&mut self, at: usize, sending: Sending) -> Result<Reply, TurnFault>
         requires at { at < length self.old.copies.items }
         requires sent { IsSent self.old.copies.items sending }
@@ -94,6 +97,7 @@ impl ScriptCluster {
     }
 
     /// Brings a message to a processor, whose copy takes its operations.
+    #[cold]
     pub(crate) fn deliver(&mut self, message: u32, at: u8) -> Result<Reply, TurnFault>
         ensures { (accepted : Accepted) → Does result (net_of self.new)
             (happened (beside self.old accepted) (event.Deliver message at)) }
@@ -108,6 +112,7 @@ impl ScriptCluster {
     }
 
     /// Has a processor's copy take all that another one's holds, in its order of arrival.
+    #[cold]
     pub(crate) fn merge(&mut self, into: u8, from: u8) -> Result<Reply, TurnFault>
         ensures { (accepted : Accepted) → Does result (net_of self.new)
             (happened (beside self.old accepted) (event.Join into from)) }
@@ -146,6 +151,7 @@ impl ScriptCluster {
     }
 
     /// Asks whether the copies of two processors hold the same.
+    #[cold]
     pub(crate) fn same(&mut self, at: u8, other: u8) -> Result<Reply, TurnFault>
         ensures { (accepted : Accepted) → Does result (net_of self.new)
             (compared (beside self.old accepted) at other same_answer) }
@@ -162,6 +168,7 @@ impl ScriptCluster {
     }
 
     /// Asks whether a processor's copy holds all that another one's holds.
+    #[cold]
     pub(crate) fn covers(&mut self, at: u8, other: u8) -> Result<Reply, TurnFault>
         ensures { (accepted : Accepted) → Does result (net_of self.new)
             (compared (beside self.old accepted) at other covers_answer) }

@@ -130,6 +130,20 @@ module _ (places : List OwnPlace) (orders : Orders) (aligned : AreAligned places
       least = λ k has up meeting. h.least k has (le_as (place_cmp begins k) (from_start k has up meeting));
     }
 
+  -- where no order is left, none is reached
+  pub none_left : IsNextOrder orders least None → HasReachedFrom places order first end None
+  none_left none k has up =
+      let less = none k.order (known_order k has) in
+      let more = no_more k.order up (aligned k has).at_least_a_page in
+      absurd (omega arith)
+
+  -- nor where the next is above all
+  pub none_so_high : (next : ℕ) → IsLeastOrder orders least next → 48 < next → HasReachedFrom places order first end None
+  none_so_high next is high k has up =
+      let least_up = next_up next is k has up in
+      let most = (aligned k has).at_most_all in
+      absurd (omega arith)
+
 -- ---- what comes next
 
 module _ (places : List OwnPlace) (first end : ℕ) (c : OwnPlace) where

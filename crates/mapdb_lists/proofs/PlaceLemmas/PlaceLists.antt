@@ -1,6 +1,6 @@
 -- Places in ascending order in a list: what stands at an index is the least of all from there on.
 use Rattle.std.proofs.Common.{◌≡◌, ℕ, ◌+◌, ◌<◌, ◌≤◌, Bool, true, false, refl, sym, ap, subst, List, ◌∷◌, get_or, length, ◌∙◌, inl, inr, arith}
-use Rattle.std.specs.Prelude.{◌⊎◌, ◌||◌, ◌-◌, not, Option, None, Some, IfNone, IfSome, option_map}
+use Rattle.std.specs.Prelude.{◌⊎◌, ◌||◌, ◌-◌, not, Option, None, Some, slice_get}
 use Rattle.std.specs.BTreeMap.{is_at}
 use Rattle.std.specs.List.{insert}
 use Rattle.std.specs.List.Sorted.{IsPartitionPoint, IsPartitionedBy}
@@ -12,10 +12,10 @@ use Rattle.std.proofs.lemmas.List.{get_or_default}
 use Rattle.std.proofs.lemmas.List.Edits.{get_or-insert_above, get_or-insert_at, get_or-insert_below, length-insert}
 use Rattle.std.proofs.lemmas.List.Folds.{Any-from_list_any}
 use Rattle.std.proofs.lemmas.List.Sorted.{IsPermutation-insert, list_any-IsPermutation}
+use Rattle.std.proofs.lemmas.Option.{get_or_from_slice_get, none-some, slice_get-get_or, slice_get_within}
 use Rattle.mapdb_lists.specs.declared.own_places.OwnPlace.{OwnPlace}
-use Rattle.mapdb_lists.specs.declared.place_sets.Spot.{Spot}
 use Rattle.mapdb_lists.specs.Ascending.{Ascend, IsAtIndex}
-use Rattle.mapdb_lists.specs.OwnPlaces.{IsFirstPlaceWhere, IsLeastPlace, is_beyond, place_cmp, spot_place, stands}
+use Rattle.mapdb_lists.specs.OwnPlaces.{IsFirstPlaceWhere, IsLeastPlace, is_beyond, place_cmp, stands, start}
 use Rattle.mapdb_lists.proofs.Lists.ListedOrder.{less_from}
 use Rattle.mapdb_lists.proofs.PlaceLemmas.LeastPlaces.{item_stands}
 use Rattle.mapdb_lists.proofs.PlaceLemmas.PlaceOrder.{at_back, exact_place, le_itself, not_before, place_total, same_or_above}
@@ -37,6 +37,19 @@ index_of places p has =
 
 pub at_stands : (places : List OwnPlace) (index : ℕ) (p : OwnPlace) → IsAtIndex places index p → stands places p ≡ true
 at_stands places index p at = subst (λ (x : OwnPlace). stands places x ≡ true) (at.1 p) (item_stands places index p at.0)
+
+-- where nothing stands, the list has ended
+pub past : (places : List OwnPlace) (index : ℕ) → slice_get places index ≡ None → length places ≤ index
+past places index none = elim (two index (length places)) [
+  | inl inside ↦ absurd (none-some (get_or places index (start 0 0)) (sym none ∙ slice_get-get_or places index (start 0 0) inside))
+  | inr ends ↦ ends
+]
+  where
+    two : (i j : ℕ) → (i < j) ⊎ (j ≤ i)
+    two i j = grind (arith)
+
+pub got : (places : List OwnPlace) (index : ℕ) (p : OwnPlace) → slice_get places index ≡ Some p → IsAtIndex places index p
+got places index p e = (slice_get_within places index p e, λ d. get_or_from_slice_get places index p d e)
 
 -- ---- what comes before what
 
@@ -103,10 +116,12 @@ module _ (places : List OwnPlace) (ascend : Ascend places) where
   ]
 
   -- the place behind one, or none
-  pub behind_one : (index : ℕ) (p : OwnPlace) → IsAtIndex places index p → (spot : Option Spot) → IfNone spot (length places ≤ index + 1)
-      → IfSome spot (λ s. IsAtIndex places (index + 1) s.place) → IsFirstPlaceWhere (is_beyond (Some p)) places (option_map spot_place spot)
-  behind_one index p here None none next = none_next index p here none
-  behind_one index p here (Some s) none next = next_is index p s.place here next
+  pub behind_one : (index : ℕ) (p : OwnPlace) → IsAtIndex places index p → IsFirstPlaceWhere (is_beyond (Some p)) places (slice_get places (index + 1))
+  behind_one index p here = by (slice_get places (index + 1)) refl
+    where
+      by : (r : Option OwnPlace) → slice_get places (index + 1) ≡ r → IsFirstPlaceWhere (is_beyond (Some p)) places r
+      by None e = none_next index p here (past places (index + 1) e)
+      by (Some q) e = next_is index p q here (got places (index + 1) q e)
 
   -- ---- the first place that passes, behind all that fail
 
@@ -172,10 +187,12 @@ module _ (places : List OwnPlace) (ascend : Ascend places) where
 
   -- the first place that passes, or none
   pub first_where : (front test : OwnPlace → Bool) → ((k : OwnPlace) → front k ≡ not (test k)) → (index : ℕ)
-      → IsPartitionPoint (λ y. front y ≡ true) (λ y. front y ≡ false) places index → (spot : Option Spot) → IfNone spot (length places ≤ index)
-      → IfSome spot (λ s. IsAtIndex places index s.place) → IsFirstPlaceWhere test places (option_map spot_place spot)
-  first_where front test apart index parted None none here = none_from places ascend front test apart index parted none
-  first_where front test apart index parted (Some s) none here = first_is places ascend front test apart index parted s.place here
+      → IsPartitionPoint (λ y. front y ≡ true) (λ y. front y ≡ false) places index → IsFirstPlaceWhere test places (slice_get places index)
+  first_where front test apart index parted = by (slice_get places index) refl
+    where
+      by : (r : Option OwnPlace) → slice_get places index ≡ r → IsFirstPlaceWhere test places r
+      by None e = none_from places ascend front test apart index parted (past places index e)
+      by (Some p) e = first_is places ascend front test apart index parted p (got places index p e)
 
   -- ---- one place more
 

@@ -75,6 +75,7 @@ pub fn follow_cut(
 }
 
 /// A space ended: its records lose their rights, and what has its pages from there follows.
+#[cold]
 pub fn follow_end(
     changes: &mut AllChanges,
     listed: &mut Places,

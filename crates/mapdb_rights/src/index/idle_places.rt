@@ -60,6 +60,7 @@ pub(crate) fn note_unless_known(
 }
 
 /// Notes the names of all held records without rights. An error where memory ran out.
+#[cold]
 pub(crate) fn note_all_without_rights(
     idle: &mut SmallVec<RecordId, 1>,
     changes: &AllChanges,

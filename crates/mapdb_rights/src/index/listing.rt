@@ -140,6 +140,7 @@ pub(crate) fn list_came(
 }
 
 /// Lists the source of each held record.
+#[cold]
 pub(crate) fn list_sources(listed: &mut Places, facts: &Facts) -> Result<(), AllocError>
     requires aligned { AllAligned listed.old }
     requires held { AreOfHeld (state_of_facts facts.now) listed.old }

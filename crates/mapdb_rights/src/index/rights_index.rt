@@ -121,6 +121,7 @@ impl RightsIndex {
     }
 
     /// Lets go of all that is kept: the index is absent then.
+    #[cold]
     fn let_go(&mut self)
         ensures absent { self.new.absent ≡ true }
         ensures no_changes { self.new.changes.own.entries ≡ [] }

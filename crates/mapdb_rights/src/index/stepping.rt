@@ -34,6 +34,7 @@ fn taken_at(facts: &Facts, id: RecordId, page: u64) -> (Rights, u64)
 }
 
 /// What the root has from a page on.
+#[cold]
 fn root_given(facts: &Facts, id: RecordId, page: u64) -> Stretch
     requires root { is_root id ≡ true }
     requires in_space { page < PAGE_LIMIT }

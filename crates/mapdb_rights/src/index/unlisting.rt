@@ -101,6 +101,7 @@ pub(crate) fn unlist(listed: &mut Places, facts: &Facts, id: RecordId)
 }
 
 /// Lets go of each held record, as far as nothing is left to revoke there.
+#[cold]
 pub(crate) fn unlist_revoked(listed: &mut Places, facts: &Facts)
     requires { AreListed (state_of_facts facts.now) listed.old }
     ensures listed { AreListed (state_of_facts facts.now) listed.new }

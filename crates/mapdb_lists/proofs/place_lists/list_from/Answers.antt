@@ -1,13 +1,11 @@
+use Rattle.std.proofs.Common.{sym, subst}
+use Rattle.std.specs.Prelude.{Option}
 use Rattle.std.specs.BTreeMap.Range.{is_from_start}
-use Rattle.std.specs.Ordering.{is_lt}
 use Rattle.std.specs.declared.ops.Bound.TheVariants.{Included}
 use Rattle.mapdb_lists.specs.declared.own_places.OwnPlace.{OwnPlace}
-use Rattle.mapdb_lists.specs.OwnPlaces.{place_cmp}
-use Rattle.mapdb_lists.proofs.PlaceLemmas.PlaceLists.{first_where, not_from}
+use Rattle.mapdb_lists.specs.OwnPlaces.{IsFirstPlaceWhere, place_cmp}
 use Rattle.mapdb_lists.proofs.place_lists.list_from.Goals as goal
 
 pub returns-clause-least : goal.returns-clause-least
 returns-clause-least c =
-    first_where c.args.list.now c.requires (λ (y : OwnPlace). is_lt (place_cmp y c.args.from)) (is_from_start place_cmp (Included c.args.from))
-    (not_from c.args.from) c.index_for.result c.index_for.ensures.parted
-    c.spot_at.result c.spot_at.ensures.none c.spot_at.ensures.here
+    subst (λ (r : Option OwnPlace). IsFirstPlaceWhere (is_from_start place_cmp (Included c.args.from)) c.args.list.now r) (sym c.spot_at.ensures.here) c.index_from.ensures

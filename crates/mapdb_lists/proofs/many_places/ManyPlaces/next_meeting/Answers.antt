@@ -8,10 +8,10 @@ use Rattle.mapdb_lists.proofs.many_places.ManyPlaces.next_meeting.Goals as goal
 pub orders-preserved : goal.orders-preserved
 orders-preserved c =
     let keys = c.args.self.now.places in
-    let here : IsReachedAbove keys c.args.first c.args.end c.args.after c.in-Some.spot.place =
-    subst (λ (r : Option Spot). HasReached keys c.args.first c.args.end c.args.after (option_map spot_place r)) c.in-Some.is c.orders.invariant.reached in
-    let apart : own_meets c.in-Some.spot.place c.args.first c.args.end ≡ false = sym c.meets.ensures ∙ c.if-meets.false in
+    let here : IsReachedAbove keys c.args.first c.args.end c.args.after c.in-Some-reached.spot.place =
+    subst (λ (r : Option Spot). HasReached keys c.args.first c.args.end c.args.after (option_map spot_place r)) c.in-Some-reached.is c.orders.invariant.reached in
+    let apart : own_meets c.in-Some-reached.spot.place c.args.first c.args.end ≡ false = sym c.meets.ensures ∙ c.if-meets.false in
     record {
-      reached = reached_on keys c.args.first c.args.end c.args.after c.in-Some.spot.place (option_map spot_place c.pass-reached.result) here apart c.pass-reached.ensures.reached;
+      reached = reached_on keys c.args.first c.args.end c.args.after c.in-Some-reached.spot.place (option_map spot_place c.pass-reached.result) here apart c.pass-reached.ensures.reached;
       behind = c.pass-reached.ensures.behind;
     }
