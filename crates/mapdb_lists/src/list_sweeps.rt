@@ -1,6 +1,7 @@
 //! The next of many places that meets pages, where they stand in a list that is halved.
 
-ghost use Rattle.std.specs.Prelude.{◌≡◌, ◌<◌, ℕ, IfSome, Some, None, false, option_map, slice_get, true};
+ghost use Rattle.std.specs.Prelude.{◌≡◌, ◌<◌, ℕ, IfSome, None, Some, false, option_map};
+ghost use Rattle.std.specs.Prelude.{slice_get, true};
 ghost use Rattle.mapdb_lists.specs.Ascending.{Ascend};
 ghost use Rattle.mapdb_lists.specs.OwnPlaces.{AreAligned, HasReached, HasReachedFrom};
 ghost use Rattle.mapdb_lists.specs.OwnPlaces.{IsLastWhereSaid, IsNextPlace, found_place};
