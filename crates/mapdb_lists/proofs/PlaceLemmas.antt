@@ -6,6 +6,7 @@ pub mod ByOwners
 pub mod PlaceLists
 pub mod PlaceNames
 pub mod PlaceOrder
+pub mod PlaceNumbers
 pub mod SpacePlaces
 pub mod OwnSweeps
 pub mod LessPlaces

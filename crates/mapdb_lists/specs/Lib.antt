@@ -1,4 +1,6 @@
+pub mod PlaceKeys
 pub mod Standing
+pub mod PlaceOrders
 pub mod Ascending
 pub mod OwnPlaces
 pub mod Owners

@@ -60,8 +60,8 @@ pub(crate) fn least_inside(places: &[OwnPlace], start: &Bound<OwnPlace>) -> Opti
 }
 
 /// Whether the place comes after another, where there is one.
-fn is_beyond(after: Option<OwnPlace>, place: &OwnPlace) -> bool
-    ensures { result ≡ is_beyond after place.now }
+fn is_beyond(after: &Option<OwnPlace>, place: &OwnPlace) -> bool
+    ensures { result ≡ is_beyond after.now place.now }
 {
     match after {
         Some(other) => other.is_before(place),
@@ -75,11 +75,11 @@ fn lesser_meeting(
     found: Option<OwnPlace>,
     first: u64,
     end: u64,
-    after: Option<OwnPlace>,
+    after: &Option<OwnPlace>,
     place: OwnPlace,
 ) -> Option<OwnPlace>
     requires { IsAlignedPlace place }
-    ensures { result ≡ lesser_where (is_next after first end) found place }
+    ensures { result ≡ lesser_where (is_next after.now first end) found place }
 {
     if is_beyond(after, &place) && place.meets(first, end) {
         Some(lesser(found, place))
@@ -100,7 +100,7 @@ pub(crate) fn least_meeting(
 {
     let mut found = None;
     for place in places {
-        found = lesser_meeting(found, first, end, after, *place);
+        found = lesser_meeting(found, first, end, &after, *place);
     }
     found
 }

@@ -15,3 +15,6 @@ pub(crate) const SOME_PLACES: usize = 256;
 
 /// For each order below this there is a bit.
 pub(crate) const ORDER_LIMIT: u8 = 64;
+
+/// First pages of places lie below this: a place's order and first page are one number.
+pub const FIRST_LIMIT: u64 = 1 << 56;

@@ -8,6 +8,7 @@ ghost use Rattle.mapdb_lists.specs.OwnPlaces.{IsLastWhereSaid, IsNextPlace, foun
 ghost use Rattle.mapdb_lists.specs.OwnPlaces.{orders_ahead, own_meets, stands};
 ghost use Rattle.mapdb_lists.specs.Standing.{HaveOrders};
 
+use crate::limits::FIRST_LIMIT;
 use crate::orders::Orders;
 use crate::own_places::{FoundPlace, OwnPlace};
 use crate::place_lists::{index_above, index_from};
@@ -20,6 +21,7 @@ fn list_reach(list: &[OwnPlace], orders: Orders, order: u8, page: u64) -> usize
     requires ascend { Ascend list.now }
     requires aligned { AreAligned list.now }
     requires ordered { HaveOrders list.now orders }
+    requires near { page < FIRST_LIMIT }
     ensures { (end : ℕ) → HasReachedFrom list.now order page end (slice_get list.now result) }
 {
     let Some(next) = orders.next_from(order.max(LEAST_ORDER)) else {
@@ -44,13 +46,14 @@ fn list_begin(
     requires ascend { Ascend list.now }
     requires aligned { AreAligned list.now }
     requires ordered { HaveOrders list.now orders }
+    requires near { first < FIRST_LIMIT }
     ensures { HasReached list.now first end after (slice_get list.now result) }
 {
     let Some(place) = after else {
         return list_reach(list, orders, 0, first);
     };
-    if place.first >= end {
-        return list_reach(list, orders, place.order.saturating_add(1), first);
+    if place.first() >= end {
+        return list_reach(list, orders, place.order().saturating_add(1), first);
     }
     index_above(list, place, at)
 }
@@ -63,14 +66,15 @@ fn list_pass(list: &[OwnPlace], orders: Orders, place: OwnPlace, first: u64, end
     requires held { stands list.now place ≡ true }
     requires pages { first < end }
     requires apart { own_meets place first end ≡ false }
+    requires near { first < FIRST_LIMIT }
     ensures reached { HasReached list.now first end (Some place) (slice_get list.now result) }
     ensures fewer { orders_ahead first (slice_get list.now result)
         < orders_ahead first (Some place) }
 {
-    if place.first >= end {
-        return list_reach(list, orders, place.order + 1, first);
+    if place.first() >= end {
+        return list_reach(list, orders, place.order() + 1, first);
     }
-    index_from(list, start_of(place.order, first))
+    index_from(list, start_of(place.order(), first))
 }
 
 /// Whether no place behind the one at an index can begin before the end of the pages.
@@ -85,10 +89,10 @@ fn list_is_last(list: &[OwnPlace], orders: Orders, at: usize, place: OwnPlace, e
     let Some(next) = list.get(at + 1) else {
         return true;
     };
-    if next.order == place.order && next.first < end {
+    if next.order() == place.order() && next.first() < end {
         return false;
     }
-    orders.next_from(place.order.saturating_add(1)).is_none()
+    orders.next_from(place.order().saturating_add(1)).is_none()
 }
 
 /// The least place, above another, that meets the pages from `first` on up to before `end`. The
@@ -105,6 +109,7 @@ pub(crate) fn list_next(
     requires aligned { AreAligned list.now }
     requires ordered { HaveOrders list.now orders }
     requires pages { first < end }
+    requires near { first < FIRST_LIMIT }
     ensures next { IsNextPlace list.now first end after (option_map found_place result) }
     ensures last { IfSome result (IsLastWhereSaid list.now first end) }
 {

@@ -2,6 +2,7 @@
 
 ghost use Rattle.mapdb_lists.specs.Standing.{HaveOrders};
 
+use crate::limits::FIRST_LIMIT;
 use crate::list_sweeps::list_next;
 use crate::orders::Orders;
 use crate::own_places::{FoundPlace, OwnPlace};
@@ -49,7 +50,7 @@ impl ManyPlaces {
         ensures { OnOk result ((k : OwnPlace) → stands self.new.places k
             ≡ (is_at (place_cmp place) k || stands self.old.places k)) }
     {
-        self.orders.add(place.order);
+        self.orders.add(place.order());
         self.places.insert(alloc, place)
     }
 
@@ -82,7 +83,8 @@ impl ManyPlaces {
 
     /// The first place, of an order from one on, that may hold a page or come behind it.
     fn reach(&self, order: u8, page: u64) -> Option<Spot>
-        requires { AreAligned self.now.places }
+        requires aligned { AreAligned self.now.places }
+        requires near { page < FIRST_LIMIT }
         ensures reached { (end : ℕ) → HasReachedFrom self.now.places order page end
             (option_map spot_place result) }
         ensures behind { IfSome result (IsBehind self.now.places) }
@@ -95,7 +97,8 @@ impl ManyPlaces {
 
     /// The first place above another, where there is one, that may meet the pages.
     fn begin(&self, first: u64, end: u64, after: Option<OwnPlace>) -> Option<Spot>
-        requires { AreAligned self.now.places }
+        requires aligned { AreAligned self.now.places }
+        requires near { first < FIRST_LIMIT }
         ensures reached { HasReached self.now.places first end after
             (option_map spot_place result) }
         ensures behind { IfSome result (IsBehind self.now.places) }
@@ -103,8 +106,8 @@ impl ManyPlaces {
         let Some(place) = after else {
             return self.reach(0, first);
         };
-        if place.first >= end {
-            return self.reach(place.order.saturating_add(1), first);
+        if place.first() >= end {
+            return self.reach(place.order().saturating_add(1), first);
         }
         self.places.first_above(place)
     }
@@ -116,16 +119,17 @@ impl ManyPlaces {
         requires held { stands self.now.places place ≡ true }
         requires pages { first < end }
         requires apart { own_meets place first end ≡ false }
+        requires near { first < FIRST_LIMIT }
         ensures reached { HasReached self.now.places first end (Some place)
             (option_map spot_place result) }
         ensures fewer { orders_ahead first (option_map spot_place result)
             < orders_ahead first (Some place) }
         ensures behind { IfSome result (IsBehind self.now.places) }
     {
-        if place.first >= end {
-            return self.reach(place.order + 1, first);
+        if place.first() >= end {
+            return self.reach(place.order() + 1, first);
         }
-        self.places.first_from(start_of(place.order, first))
+        self.places.first_from(start_of(place.order(), first))
     }
 
     /// Whether no place above a spot's can begin before the end of the pages.
@@ -135,12 +139,14 @@ impl ManyPlaces {
         ensures { result ≡ true
             → IsNextPlace self.now.places first end (Some spot.place) None }
     {
-        let order = spot.place.order;
-        match spot.next {
-            Some(next) if next.order == order && next.first < end => false,
-            Some(_) => self.orders.next_from(order.saturating_add(1)).is_none(),
-            None => true,
+        let order = spot.place.order();
+        let Some(next) = spot.next else {
+            return true;
+        };
+        if next.order() == order && next.first() < end {
+            return false;
         }
+        self.orders.next_from(order.saturating_add(1)).is_none()
     }
 
     /// The least place, above another, that meets the pages from `first` on up to before `end`. The
@@ -157,7 +163,7 @@ impl ManyPlaces {
             (option_map found_place result) }
         ensures last { IfSome result (IsLastWhereSaid self.now.places first end) }
     {
-        if first >= end {
+        if first >= end.min(FIRST_LIMIT) {
             return None;
         }
         if let Some(list) = self.places.listed() {
@@ -191,7 +197,7 @@ impl ManyPlaces {
         ensures only { OnOk result ((id : RecordId) → is_named names.new.items id ≡ true
             → (is_named names.old.items id ≡ true) ⊎ IsNameMeeting self.now.places first end id) }
     {
-        if first >= end {
+        if first >= end.min(FIRST_LIMIT) {
             return Ok(());
         }
         let mut reached = self.orders.next_from(LEAST_ORDER);

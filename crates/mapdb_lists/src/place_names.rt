@@ -38,7 +38,7 @@ pub(crate) fn few_names(
 {
     for place in places {
         if place.meets(first, end) {
-            add_item(names, place.id)?;
+            add_item(names, place.id())?;
         }
     }
     Ok(())
@@ -48,7 +48,7 @@ pub(crate) fn few_names(
 fn is_of_order(place: &OwnPlace, from: &OwnPlace, end: u64) -> bool
     ensures { result ≡ (nat_eq place.now.order from.now.order && nat_lt place.now.first end) }
 {
-    place.order == from.order && place.first < end
+    place.order() == from.order() && place.first() < end
 }
 
 /// Adds the names of the places of a tree from one on that are of its order and begin before an
@@ -71,7 +71,7 @@ pub(crate) fn tree_names(
         if !is_of_order(place, &from, end) {
             return Ok(());
         }
-        add_item(names, place.id)?;
+        add_item(names, place.id())?;
     }
     Ok(())
 }
@@ -98,7 +98,7 @@ pub(crate) fn list_names(
         if !is_of_order(&place, &from, end) {
             return Ok(());
         }
-        add_item(names, place.id)?;
+        add_item(names, place.id())?;
     }
     Ok(())
 }

@@ -1,11 +1,12 @@
 //! The least of a set of places, found in their order.
 
-ghost use Rattle.std.specs.Prelude.{◌≡◌, ◌≤◌, ◌-◌, ◌%◌, ◌^◌, IfSome, option_map};
+ghost use Rattle.std.specs.Prelude.{◌≡◌, ◌<◌, ◌≤◌, ◌-◌, ◌%◌, ◌^◌, IfSome, option_map};
 ghost use Rattle.std.specs.BTreeMap.Range.{is_from_start};
 ghost use Rattle.std.specs.declared.ops.Bound.TheVariants.{Excluded, Included};
 ghost use Rattle.mapdb_lists.specs.OwnPlaces.{IsBehind, IsFirstPlaceWhere, place_cmp, spot_place};
 ghost use Rattle.mapdb_lists.specs.OwnPlaces.{start};
 
+use crate::limits::FIRST_LIMIT;
 use crate::own_places::OwnPlace;
 use mapdb_facts::RecordId;
 use mapdb_fpage::{LEAST_ORDER, TOP_ORDER, pages_of_order};
@@ -25,13 +26,11 @@ pub struct Spot {
 pub(crate) fn start_of(order: u8, page: u64) -> OwnPlace
     requires least { LEAST_ORDER ≤ order }
     requires most { order ≤ TOP_ORDER }
+    requires near { page < FIRST_LIMIT }
     ensures { result ≡ start order (page - page % 2 ^ (order - LEAST_ORDER)) }
 {
-    OwnPlace {
-        order,
-        first: page - page % pages_of_order(order),
-        id: RecordId::ROOT,
-    }
+    let first = page - page % pages_of_order(order);
+    OwnPlace::new(order, first, RecordId::ROOT)
 }
 
 /// The least place from one on, and the one behind it.

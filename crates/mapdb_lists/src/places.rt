@@ -1,7 +1,7 @@
 //! The places of records, by owner: a space has those of its records, a record those that its
 //! children's pages come from.
 
-ghost use Rattle.std.specs.Prelude.{◌≡◌, ◌&&◌, ◌||◌, false, IfSome, None, OnOk, not, option_map};
+ghost use Rattle.std.specs.Prelude.{◌≡◌, ◌<◌, ◌&&◌, ◌||◌, false, IfSome, None, OnOk, not, option_map};
 ghost use Rattle.std.specs.BTreeMap.{is_at};
 ghost use Rattle.std.specs.Option.{option_copied};
 ghost use Rattle.std.specs.declared.ops.Bound.TheVariants.{Excluded, Included};
@@ -10,6 +10,7 @@ ghost use Rattle.mapdb_lists.specs.Listing.{listed_cmp, listed_for, own_place, p
 ghost use Rattle.mapdb_lists.specs.Listing.{owner_places};
 ghost use Rattle.mapdb_lists.specs.declared.places.Listed.{Listed};
 
+use crate::limits::FIRST_LIMIT;
 use crate::own_places::{OwnPlace, OwnPlaces};
 use crate::owners_places::OwnersPlaces;
 use mapdb_facts::{RecordId, Space};
@@ -40,18 +41,16 @@ pub struct Listed {
 impl Listed {
     /// The place alone, whoever owns it.
     fn own_place(self) -> OwnPlace
+        requires { self.first < FIRST_LIMIT }
         ensures { result ≡ own_place self }
     {
-        OwnPlace {
-            order: self.order,
-            first: self.first,
-            id: self.id,
-        }
+        OwnPlace::new(self.order, self.first, self.id)
     }
 }
 
 /// The place of an entry, where there is one.
 fn place_of(entry: Option<Listed>) -> Option<OwnPlace>
+    requires { IfSome entry (λ e. e.first < FIRST_LIMIT) }
     ensures { result ≡ option_map own_place entry }
 {
     match entry {
@@ -67,9 +66,9 @@ fn listed_for(owner: Owner, place: Option<OwnPlace>) -> Option<Listed>
     match place {
         Some(place) => Some(Listed {
             owner,
-            order: place.order,
-            first: place.first,
-            id: place.id,
+            order: place.order(),
+            first: place.first(),
+            id: place.id(),
         }),
         None => None,
     }
@@ -94,6 +93,7 @@ impl Places {
     /// Lists one entry more. An error where memory ran out.
     #[inline(always)]
     pub fn insert(&mut self, entry: Listed) -> Result<(), AllocError>
+        requires { entry.first < FIRST_LIMIT }
         ensures { OnOk result ((e : Listed) → is_listed self.new e
             ≡ (is_at (listed_cmp entry) e || is_listed self.old e)) }
     {
@@ -102,6 +102,7 @@ impl Places {
 
     /// Lets go of an entry, where it is listed; it takes no memory.
     pub fn remove(&mut self, entry: Listed)
+        requires { entry.first < FIRST_LIMIT }
         ensures { (e : Listed) → is_listed self.new e
             ≡ (not (is_at (listed_cmp entry) e) && is_listed self.old e) }
     {
@@ -118,6 +119,7 @@ impl Places {
 
     /// The least entry of its owner from one on.
     pub fn first_from(&self, from: Listed) -> Option<Listed>
+        requires { from.first < FIRST_LIMIT }
         ensures { IsFirstInside self.now from.owner (Included from) result }
     {
         match self.own.get(from.owner) {
@@ -128,6 +130,7 @@ impl Places {
 
     /// The least entry of its owner above one.
     pub fn first_above(&self, after: Listed) -> Option<Listed>
+        requires { after.first < FIRST_LIMIT }
         ensures { IsFirstInside self.now after.owner (Excluded after) result }
     {
         match self.own.get(after.owner) {
@@ -147,6 +150,7 @@ impl Places {
     ) -> Option<Listed>
         requires aligned { AllAligned self.now }
         requires owned { IfSome after (λ e. e.owner ≡ owner) }
+        requires near { IfSome after (λ e. e.first < FIRST_LIMIT) }
         ensures { IsNextMeeting self.now owner first end after result }
     {
         match self.own.get(owner) {

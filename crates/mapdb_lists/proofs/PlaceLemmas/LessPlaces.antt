@@ -21,7 +21,7 @@ use Rattle.mapdb_lists.specs.OwnPlaces.{own_list, place_cmp, stands}
 use Rattle.mapdb_lists.proofs.Lists.ListedOrder.{exact_owner, less_from, listed_apart}
 use Rattle.mapdb_lists.proofs.PlaceLemmas.OwnersPlaces.{cmp_is}
 use Rattle.mapdb_lists.proofs.PlaceLemmas.PlaceLists.{index_of, not_itself, up}
-use Rattle.mapdb_lists.proofs.PlaceLemmas.PlaceOrder.{at_back, derived_eq, exact_place, place_at}
+use Rattle.mapdb_lists.proofs.PlaceLemmas.PlaceOrder.{at_back, same_own, exact_place, place_at}
 
 -- ---- of two lists, which of them one place is left out of
 
@@ -86,8 +86,8 @@ stands_nowhere places ascend index p parted new =
 
 -- ---- a few places as they came
 
--- what the derived test tells apart differs in the order
-pub at_ne : (p x : OwnPlace) → not (derived_eq x p) ≡ not (is_at (place_cmp p) x)
+-- what a comparison tells apart differs in the order
+pub at_ne : (p x : OwnPlace) → not (same_own x p) ≡ not (is_at (place_cmp p) x)
 at_ne p x = ap not (sym (place_at x p) ∙ at_back x p)
 
 -- without each that equals a place

@@ -4,10 +4,12 @@ use Rattle.std.specs.Prelude.{◌⊎◌, min, max, Option, None, Some, is_some}
 use Rattle.std.specs.BTreeMap.Range.{is_from_start}
 use Rattle.std.specs.Ordering.{is_gt, is_lt}
 use Rattle.std.specs.declared.ops.Bound.TheVariants.{Included}
-use Rattle.std.proofs.lemmas.Bool.{cases_Bool, ltb-true, ltb-false, true≢false}
+use Rattle.std.proofs.lemmas.Bool.{cases_Bool, false_from_ne_true, ltb-true, ltb-false, true≢false}
 use Rattle.std.proofs.lemmas.Nat.{pow_pos}
+use Rattle.std.proofs.Math.Pow.{pow_mono}
 use Rattle.mapdb_lists.specs.declared.own_places.OwnPlace.{OwnPlace}
 use Rattle.mapdb_lists.specs.OwnPlaces.{AreAligned, HasReached, HasReachedFrom, IsAlignedPlace, IsFirstPlaceWhere, IsNextPlace, IsReachedAbove, is_beyond, orders_ahead, own_meets, own_pages, place_cmp, stands, start}
+use Rattle.mapdb_lists.specs.PlaceKeys.{first_limit}
 use Rattle.mapdb_lists.specs.Standing.{HaveOrders, IsLeastOrder, IsNextOrder, has_order}
 use Rattle.mapdb_lists.specs.declared.orders.Orders.{Orders}
 use Rattle.mapdb_lists.proofs.Lists.ListedOrder.{less_from}
@@ -37,6 +39,17 @@ pub meets_below : (p : OwnPlace) (first end : ℕ) → own_meets p first end ≡
 meets_below p first end h =
     let less : max p.first first < min (p.first + own_pages p) end = ltb-true (max p.first first) (min (p.first + own_pages p) end) h in
     (omega arith, omega arith)
+
+-- no place meets pages from this limit on, or pages that end before they begin
+pub none_met : (p : OwnPlace) (first end : ℕ) → IsAlignedPlace p → min end first_limit ≤ first → own_meets p first end ≡ false
+none_met p first end aligned pages = false_from_ne_true (own_meets p first end) (λ met.
+    let less : max p.first first < min (p.first + own_pages p) end = ltb-true (max p.first first) (min (p.first + own_pages p) end) met in
+    let most = aligned.at_most_all in
+    let inside = aligned.in_space in
+    let small : p.order - 12 ≤ 36 = omega (arith, most) in
+    let few : own_pages p ≤ 2 ^ 36 = pow_mono small in
+    let no : ⊥ = omega (arith, less, few, inside, pages) in
+    no)
 
 -- what does not meet the pages and begins before their end ends before they begin
 pub ends_before : (p : OwnPlace) (first end : ℕ) → first < end → p.first < end → own_meets p first end ≡ false → p.first + own_pages p ≤ first

@@ -160,6 +160,10 @@ module _ (places : List OwnPlace) (ascend : Ascend places) where
 pub at_index : (places : List OwnPlace) (i : ℕ) (d : OwnPlace) → i < length places → IsAtIndex places i (get_or places i d)
 at_index places i d inside = (inside, λ e. get_or_default places i e d inside)
 
+-- an element that was read is at its index
+pub item_at : (places : List OwnPlace) (i : ℕ) (x : OwnPlace) → x ≡ get_or places i x → i < length places → IsAtIndex places i x
+item_at places i x is inside = subst (λ (p : OwnPlace). IsAtIndex places i p) (sym is) (at_index places i x inside)
+
 -- ---- as a halving finds it
 
 module _ (places : List OwnPlace) (ascend : Ascend places) where

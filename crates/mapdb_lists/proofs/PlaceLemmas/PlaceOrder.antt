@@ -1,50 +1,21 @@
 -- How places of one owner are ordered: by order, first page and name.
-use Rattle.std.proofs.Common.{◌≡◌, ℕ, ◌<◌, ◌≤◌, Bool, true, false, refl, sym, ap, ◌∙◌, arith, inl, inr}
-use Rattle.std.specs.Prelude.{◌⊎◌, ◌&&◌, nat_eq}
+use Rattle.std.proofs.Common.{◌≡◌, ℕ, ◌<◌, ◌≤◌, true, false, refl, sym, ap, ◌∙◌, arith, inl, inr}
+use Rattle.std.specs.Prelude.{◌⊎◌}
 use Rattle.std.specs.BTreeMap.{is_at}
-use Rattle.std.specs.Cmp.{IsTotalOrder, tied_then}
 use Rattle.std.specs.Ordering.{is_eq, is_gt, is_le, is_lt, nat_cmp, ordering_reverse, ordering_then}
 use Rattle.std.specs.declared.cmp.Ordering.{Ordering}
 use Rattle.std.specs.declared.cmp.Ordering.TheVariants.{Equal, Greater, Less}
-use Rattle.std.proofs.lemmas.Bool.{and_parts, eqb-true, false≢true, true≢false}
-use Rattle.std.proofs.lemmas.Cmp.{nat_cmp_total, on_total, then_total, tied_itself}
-use Rattle.mapdb_facts.proofs.Lists.Comparing.{from_below, id_at, nat_at}
-use Rattle.mapdb_facts.specs.Exact.{exact_id}
+use Rattle.std.proofs.lemmas.Bool.{false≢true, true≢false}
+use Rattle.std.proofs.lemmas.Cmp.{tied_itself}
+use Rattle.mapdb_facts.proofs.Lists.Comparing.{from_below}
 use Rattle.mapdb_facts.specs.Kept.{id_cmp}
-use Rattle.mapdb_facts.specs.Names.{root, same_id}
+use Rattle.mapdb_facts.specs.Names.{root}
 use Rattle.mapdb_lists.specs.declared.own_places.OwnPlace.{OwnPlace}
-use Rattle.mapdb_lists.specs.contracts.own_places.OwnPlacePartialEq.TheImpl as place_eq
+pub use Rattle.mapdb_lists.specs.PlaceOrders.{exact_place, place_at, place_total, same_own}
 use Rattle.mapdb_lists.specs.OwnPlaces.{place_cmp, start}
-use Rattle.mapdb_facts.proofs.NameLemmas.NamesInOrder.{id_total}
 use Rattle.mapdb_lists.proofs.Lists.ListedOrder.{from_equal, less_from, root_first, three_ways, up_to}
 
--- and so is what is equal
-abbrev pub derived_eq : OwnPlace → OwnPlace → Bool
-derived_eq = (place_eq.ghosts).eq
-
--- ---- it is total, and what compares equal is the same
-
-pub place_total : IsTotalOrder place_cmp
-place_total =
-    then_total (on_total (λ (p : OwnPlace). p.order) nat_cmp_total)
-    (then_total (on_total (λ (p : OwnPlace). p.first) nat_cmp_total) (on_total (λ (p : OwnPlace). p.id) id_total))
-
-pub place_at : (a b : OwnPlace) → is_at (place_cmp a) b ≡ (nat_eq a.order b.order && (nat_eq a.first b.first && same_id a.id b.id))
-place_at a b =
-    sym (tied_then (nat_cmp a.order b.order) (ordering_then (nat_cmp a.first b.first) (id_cmp a.id b.id)))
-    ∙ (λ i. nat_at a.order b.order i && last i)
-  where
-    last : is_eq (ordering_then (nat_cmp a.first b.first) (id_cmp a.id b.id)) ≡ (nat_eq a.first b.first && same_id a.id b.id)
-    last = sym (tied_then (nat_cmp a.first b.first) (id_cmp a.id b.id)) ∙ (λ i. nat_at a.first b.first i && id_at a.id b.id i)
-
-pub exact_place : (a b : OwnPlace) → is_at (place_cmp a) b ≡ true → a ≡ b
-exact_place a b h =
-    let p = and_parts (nat_eq a.order b.order) _ (sym (place_at a b) ∙ h) in
-    let q = and_parts (nat_eq a.first b.first) (same_id a.id b.id) p.1 in
-    let order = eqb-true a.order b.order p.0 in
-    let first = eqb-true a.first b.first q.0 in
-    let id = exact_id _ _ q.1 in
-    λ i. record { order = order i; first = first i; id = id i }
+-- ---- what compares equal is the same
 
 pub place_itself : (a : OwnPlace) → is_at (place_cmp a) a ≡ true
 place_itself a = ap is_eq (tied_itself place_total a)

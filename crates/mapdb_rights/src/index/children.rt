@@ -100,7 +100,7 @@ fn push_many_sources(
 {
     let mut sweep = Sweep::start();
     'children: while let Some(next) = own.next_place(first, end, sweep) {
-        push_held(stack, facts, parent, next.place.id, first, end)?;
+        push_held(stack, facts, parent, next.place.id(), first, end)?;
         sweep = next.sweep;
     }
     Ok(())
@@ -134,7 +134,7 @@ fn push_sources(
     };
     for place in places {
         if place.meets(first, end) {
-            push_held(stack, facts, parent, place.id, first, end)?;
+            push_held(stack, facts, parent, place.id(), first, end)?;
         }
     }
     Ok(())
@@ -200,7 +200,7 @@ fn push_places(
 {
     let mut sweep = Sweep::start();
     'places: while let Some(next) = own.next_place(0, PAGE_LIMIT, sweep) {
-        push_place(stack, facts, next.place.id)?;
+        push_place(stack, facts, next.place.id())?;
         sweep = next.sweep;
     }
     Ok(())

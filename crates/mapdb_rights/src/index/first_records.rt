@@ -129,7 +129,7 @@ fn first_among(
     let mut found = root_first(changes, live, facts, space, page);
     let mut sweep = Sweep::start();
     'places: while let Some(next) = own.next_place(page, end, sweep) {
-        found = with_record(found, changes, live, facts, space, page, next.place.id);
+        found = with_record(found, changes, live, facts, space, page, next.place.id());
         sweep = next.sweep;
     }
     found

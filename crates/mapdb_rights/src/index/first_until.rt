@@ -68,13 +68,13 @@ fn with_place(
         → cached_in changes.now.own.entries place.id q
         ≡ cached_in changes.now.own.entries place.id page }
 {
-    if place.first > page {
+    if place.first() > page {
         return FirstUntil {
             first: found,
-            end: place.first,
+            end: place.first(),
         };
     }
-    let own = stretch_at(changes, place.id, page);
+    let own = stretch_at(changes, place.id(), page);
     if own.change.is_none() {
         return FirstUntil {
             first: found,
@@ -82,7 +82,7 @@ fn with_place(
         };
     }
     FirstUntil {
-        first: found.with(place.id, own.change),
+        first: found.with(place.id(), own.change),
         end: own.end,
     }
 }

@@ -71,7 +71,7 @@ fn rights_among(
     let mut known = root_rights(changes, live, facts, space, page, shift);
     let mut sweep = Sweep::start();
     'places: while let Some(next) = own.next_place(page, end, sweep) {
-        known = with_record(known, changes, page, shift, next.place.id);
+        known = with_record(known, changes, page, shift, next.place.id());
         sweep = next.sweep;
     }
     known
@@ -118,7 +118,7 @@ pub(crate) fn held_frame_rights(
 {
     let mut known = root_rights(changes, live, facts, space, page, shift);
     for place in held {
-        known = with_record(known, changes, page, shift, place.id);
+        known = with_record(known, changes, page, shift, place.id());
     }
     known
 }

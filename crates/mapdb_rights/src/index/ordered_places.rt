@@ -29,7 +29,7 @@ fn put_in_order(places: &mut Vec<OwnPlace>)
     ensures ordered { IsNonDecreasingBy (λ p. p.first) places.new.items }
     ensures same { (p : OwnPlace) → stands places.new.items p ≡ stands places.old.items p }
 {
-    places.sort_unstable_by_key(|place| place.first);
+    places.sort_unstable_by_key(|place| place.first());
 }
 
 /// All places of the owner, ascending by their first pages. An error where memory ran out.

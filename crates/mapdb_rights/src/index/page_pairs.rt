@@ -91,7 +91,7 @@ fn pairs_among(
     'places: while let Some(next) = own.next_place(page, end, sweep) {
         add_shown(
             &mut pairs,
-            pair_of(changes, live, facts, next.place.id, page),
+            pair_of(changes, live, facts, next.place.id(), page),
         )?;
         sweep = next.sweep;
     }

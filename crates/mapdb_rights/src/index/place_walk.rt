@@ -15,9 +15,9 @@ use std::alloc::{AllocError, Global};
 fn reaches(place: &OwnPlace, page: u64) -> bool
     ensures { result ≡ nat_lt page (place.now.first + own_pages place.now) }
 {
-    let order = u32::from(place.order.saturating_sub(LEAST_ORDER));
+    let order = u32::from(place.order().saturating_sub(LEAST_ORDER));
     match 1_u64.checked_shl(order) {
-        Some(pages) => page.saturating_sub(place.first) < pages,
+        Some(pages) => page.saturating_sub(place.first()) < pages,
         None => true,
     }
 }
@@ -57,7 +57,7 @@ impl PlaceWalk {
         ensures come { OnOk result (HasCome places.now page self.new) }
         ensures behind { OnOk result (BeginBehind places.now page self.new) }
     {
-        'places: while self.begun < places.len() && places[self.begun].first <= page {
+        'places: while self.begun < places.len() && places[self.begun].first() <= page {
             self.held.push(places[self.begun])?;
             self.begun += 1;
         }
@@ -89,7 +89,7 @@ impl PlaceWalk {
             × (stands (drop self.now.begun places.now) p ≡ true) × (p.first ≡ result) }
     {
         if self.begun < places.len() {
-            places[self.begun].first
+            places[self.begun].first()
         } else {
             PAGE_LIMIT
         }

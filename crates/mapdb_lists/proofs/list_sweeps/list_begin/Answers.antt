@@ -10,10 +10,10 @@ returns-in_default c =
     subst (λ (a : Option OwnPlace). HasReached c.args.list.now c.args.first c.args.end a (slice_get c.args.list.now c.list_reach.result)) (sym c.in_default.is)
     (begin_least c.args.list.now c.args.first c.args.end (slice_get c.args.list.now c.list_reach.result) (c.list_reach.ensures c.args.end))
 
-pub returns-then-place-end : goal.returns-then-place-end
-returns-then-place-end c =
-    subst (λ (a : Option OwnPlace). HasReached c.args.list.now c.args.first c.args.end a (slice_get c.args.list.now c.list_reach-then-place-end.result)) (sym c.in-Some.is)
-    (pass_end c.args.list.now c.args.first c.args.end c.in-Some.place (slice_get c.args.list.now c.list_reach-then-place-end.result) c.saturating_add.result
-    c.if-place-end.true (omega (arith, c.saturating_add.ensures))
-    (λ k has up. let most = (c.requires.aligned k has).at_most_all in let above : c.in-Some.place.order < k.order = omega (arith, c.saturating_add.ensures) in above)
-    (c.list_reach-then-place-end.ensures c.args.end))
+pub returns-then-first-end : goal.returns-then-first-end
+returns-then-first-end c =
+    subst (λ (a : Option OwnPlace). HasReached c.args.list.now c.args.first c.args.end a (slice_get c.args.list.now c.list_reach-then-first-end.result)) (sym c.in-Some.is)
+    (pass_end c.args.list.now c.args.first c.args.end c.in-Some.place (slice_get c.args.list.now c.list_reach-then-first-end.result) c.saturating_add.result
+    (omega (arith, c.if-first-end.true, c.first.ensures.page)) (omega (arith, c.saturating_add.ensures, c.order.ensures))
+    (λ k has up. let most = (c.requires.aligned k has).at_most_all in let above : c.in-Some.place.order < k.order = omega (arith, c.saturating_add.ensures, c.order.ensures) in above)
+    (c.list_reach-then-first-end.ensures c.args.end))

@@ -4,7 +4,7 @@ use Rattle.std.proofs.lemmas.Bool.{true≢false}
 use Rattle.mapdb_lists.specs.OwnPlaces.{IsLeastPlace, is_beyond}
 use Rattle.mapdb_lists.proofs.PlaceLemmas.Meetings.{last_of_order, no_order}
 use Rattle.mapdb_lists.proofs.PlaceLemmas.PlaceLists.{got, next_is, none_next}
-use Rattle.mapdb_lists.proofs.list_sweeps.list_is_last.Goals.{else-next-place-via-then-next-place+else-next-end, else-next-place-via-else-next-place}
+use Rattle.mapdb_lists.proofs.list_sweeps.list_is_last.Goals.{else-order-via-then-order+else-first-end, else-order-via-else-order}
 use Rattle.mapdb_lists.proofs.list_sweeps.list_is_last.Goals as goal
 
 pub returns : goal.returns
@@ -13,12 +13,12 @@ returns c first none =
     let next : IsLeastPlace (is_beyond (Some c.args.place)) c.args.list.now c.in-Some.next.now =
     next_is c.args.list.now c.requires.ascend c.args.at c.args.place c.in-Some.next.now (got c.args.list.now c.args.at c.args.place c.requires.here) (found.0, λ d. sym (found.1 d)) in
     let begins : c.in-Some.next.now.order ≡ c.args.place.order → c.args.end ≤ c.in-Some.next.now.first =
-    λ same. elim c.else-next-place.branch [
-      | else-next-place-via-then-next-place+else-next-end w ↦ w.if-next-end.false
-      | else-next-place-via-else-next-place w ↦ absurd (w.if-next-place.false same)
+    λ same. elim c.else-order.branch [
+      | else-order-via-then-order+else-first-end w ↦ omega (arith, w.if-first-end.false, w.first.ensures.page)
+      | else-order-via-else-order w ↦ absurd (w.if-order.false (c.order.ensures ∙ same ∙ sym c.order-2.ensures))
     ] in
     last_of_order c.args.list.now c.args.orders c.requires.aligned c.requires.ordered first c.args.end c.args.place
-    c.in-Some.next.now c.saturating_add.result (omega (arith, c.saturating_add.ensures)) begins next.least next.passing
+    c.in-Some.next.now c.saturating_add.result (omega (arith, c.saturating_add.ensures, c.order-3.ensures)) begins next.least next.passing
     (no_order c.args.orders c.saturating_add.result c.next_from.result c.next_from.ensures (c.is_none.ensures ∙ ap not none))
 
 pub returns-in_default : goal.returns-in_default

@@ -1,4 +1,4 @@
-use Rattle.std.proofs.Common.{ap, sym, subst, inl, inr, List, ◌∷◌, ◌≡◌, ◌∙◌, true}
+use Rattle.std.proofs.Common.{ap, sym, subst, inl, inr, List, [], ◌∷◌, ◌++◌, ◌≡◌, ◌∙◌, true}
 use Rattle.std.specs.List.Sorted.{IsStrictlySortedBy}
 use Rattle.std.specs.BTreeMap.{is_at}
 use Rattle.std.specs.Prelude.{Bool, ◌||◌, ◌⊎◌, filter}
@@ -48,11 +48,13 @@ loop-place-preserved c =
     let place : OwnPlace = c.in-Some.place.now in
     let rest : List OwnPlace = c.next.new.self in
     let steps : c.loop-place.place-iterator ≡ place ∷ rest = c.in-Some.ensures.steps in
+    let old : List RecordId = c.loop-place.names.items in
+    let more = c.in_ok-add_item.ensures ∙ ap (λ (x : RecordId). old ++ x ∷ []) c.id.ensures in
     record {
       next = tt;
       finite = tt;
-      kept = λ id has. subst (λ (names : List RecordId). is_named names id ≡ true) (sym c.in_ok-add_item.ensures) (named_front id c.loop-place.names.items _ (c.loop-place.invariant.kept id has));
-      only = λ id has. elim (named_before id c.loop-place.names.items place.id (subst (λ (names : List RecordId). is_named names id ≡ true) c.in_ok-add_item.ensures has)) [
+      kept = λ id has. subst (λ (names : List RecordId). is_named names id ≡ true) (sym more) (named_front id c.loop-place.names.items _ (c.loop-place.invariant.kept id has));
+      only = λ id has. elim (named_before id c.loop-place.names.items place.id (subst (λ (names : List RecordId). is_named names id ≡ true) more has)) [
         | inl before ↦ c.loop-place.invariant.only id before
         | inr here ↦
             let first : stands c.loop-place.place-iterator place ≡ true = ap (λ (xs : List OwnPlace). stands xs place) steps ∙ ap (λ (b : Bool). b || stands rest place) (place_itself place) in
@@ -70,7 +72,7 @@ loop-place-preserved c =
       sorted = (sorted_rest place rest (subst (λ (xs : List OwnPlace). IsStrictlySortedBy place_cmp xs) steps c.loop-place.invariant.sorted)).1;
       up = λ p has. c.loop-place.invariant.up p (ap (λ (xs : List OwnPlace). stands xs p) steps ∙ or_right (is_at (place_cmp p) place) (stands rest p) has);
       named = λ p has up same begins.
-          subst (λ (names : List RecordId). (stands rest p ≡ true) ⊎ (is_named names p.id ≡ true)) (sym c.in_ok-add_item.ensures)
+          subst (λ (names : List RecordId). (stands rest p ≡ true) ⊎ (is_named names p.id ≡ true)) (sym more)
           (elim (c.loop-place.invariant.named p has up same begins) [
             | inl ahead ↦ elim (or_later p place rest (ap (λ (xs : List OwnPlace). stands xs p) (sym steps) ∙ ahead)) [
               | inl later ↦ inl later

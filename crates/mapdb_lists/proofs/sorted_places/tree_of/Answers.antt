@@ -1,7 +1,13 @@
+use Rattle.std.proofs.Common.{◌≡◌, subst}
+use Rattle.std.specs.Prelude.{◌||◌}
+use Rattle.std.specs.BTreeMap.{is_at}
+use Rattle.mapdb_lists.specs.declared.own_places.OwnPlace.{OwnPlace}
+use Rattle.mapdb_lists.specs.OwnPlaces.{place_cmp, stands}
 use Rattle.mapdb_lists.proofs.PlaceLemmas.LeastPlaces.{many_step}
 use Rattle.mapdb_lists.proofs.sorted_places.tree_of.Goals as goal
 
 pub loop-place-preserved : goal.loop-place-preserved
 loop-place-preserved c =
-    many_step c.args.places.now c.loop-place.place-index _ c.loop-place.tree.keys c.tree_put.new.tree.keys c.loop-place-test.true
-    c.in_ok-tree_put.ensures.put c.loop-place.invariant
+    many_step c.args.places.now c.loop-place.place-index c.place-item.result c.loop-place.tree.keys c.tree_put.new.tree.keys c.loop-place-test.true
+    (subst (λ (p : OwnPlace). (k : OwnPlace) → stands c.tree_put.new.tree.keys k ≡ (is_at (place_cmp p) k || stands c.loop-place.tree.keys k)) c.place-item.is c.in_ok-tree_put.ensures.put)
+    c.loop-place.invariant

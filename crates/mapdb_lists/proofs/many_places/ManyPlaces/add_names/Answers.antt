@@ -1,3 +1,5 @@
+use Rattle.std.proofs.lemmas.Bool.{true≢false}
+use Rattle.mapdb_lists.proofs.PlaceLemmas.Meetings.{none_met}
 use Rattle.std.proofs.Common.{arith, ap, sym, subst, inl, inr, rules, ◌+◌, ◌∙◌, ℕ}
 use Rattle.std.specs.Prelude.{Option}
 use Rattle.std.specs.Ordering.{is_gt}
@@ -6,6 +8,10 @@ use Rattle.mapdb_lists.specs.declared.own_places.OwnPlace.{OwnPlace}
 use Rattle.mapdb_lists.proofs.PlaceLemmas.PlaceNames.{IsAhead, ahead_on, from_start_of, meets_from, or_above}
 use Rattle.mapdb_lists.proofs.PlaceLemmas.PlaceOrder.{le_as, le_is}
 use Rattle.mapdb_lists.proofs.many_places.ManyPlaces.add_names.Goals as goal
+
+pub returns-then-first-min-clause-named : goal.returns-then-first-min-clause-named
+returns-then-first-min-clause-named c p has meeting =
+    absurd (true≢false (sym meeting ∙ none_met p c.args.first c.args.end (c.requires p has) (omega (arith, c.if-first-min.true, c.min.ensures))))
 
 pub orders-preserved : goal.orders-preserved
 orders-preserved c = record {

@@ -1,9 +1,12 @@
-use Rattle.std.proofs.Common.{◌≡◌, false, sym, subst, ◌∙◌}
+use Rattle.std.proofs.Common.{◌≡◌, false, sym, subst, ◌∙◌, arith}
 use Rattle.std.specs.Prelude.{Option, option_map}
 use Rattle.mapdb_lists.specs.declared.place_sets.Spot.{Spot}
 use Rattle.mapdb_lists.specs.OwnPlaces.{HasReached, IsReachedAbove, own_meets, spot_place}
-use Rattle.mapdb_lists.proofs.PlaceLemmas.Meetings.{reached_on}
+use Rattle.mapdb_lists.proofs.PlaceLemmas.Meetings.{none_met, reached_on}
 use Rattle.mapdb_lists.proofs.many_places.ManyPlaces.next_meeting.Goals as goal
+
+pub returns-then-first-min-clause-next : goal.returns-then-first-min-clause-next
+returns-then-first-min-clause-next c k has above = none_met k c.args.first c.args.end (c.requires k has) (omega (arith, c.if-first-min.true, c.min.ensures))
 
 pub orders-preserved : goal.orders-preserved
 orders-preserved c =
