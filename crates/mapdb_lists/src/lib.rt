@@ -42,6 +42,7 @@ pub use changes::{
     AllChanges, Change, Replaced, Stretch, begin, cached_at, has_rights, is_bare, replace, seen_at,
     stretch_at, unchanged_until,
 };
+pub use limits::FIRST_LIMIT;
 pub use own_places::{NextPlace, OwnPlace, OwnPlaces, Sweep};
 pub use places::{Listed, Owner, Places};
 pub use short_lists::add_item;

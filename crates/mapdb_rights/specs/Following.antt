@@ -1,5 +1,5 @@
 -- What an index keeps, and what it stands for.
-use Rattle.std.specs.Prelude.{◌≡◌}
+use Rattle.std.specs.Prelude.{◌≡◌, List}
 use Rattle.mapdb_facts.specs.Looking.{Holds}
 use Rattle.mapdb_facts.specs.Merging.{IsNamed}
 use Rattle.mapdb_facts.specs.State.{State, join, said}
@@ -14,7 +14,9 @@ use Rattle.mapdb_rights.specs.Caching.{AreRights}
 use Rattle.mapdb_rights.specs.CachedFrames.{AreFrames}
 use Rattle.mapdb_rights.specs.HeldPlaces.{AreOfHeld, HasSources}
 use Rattle.mapdb_rights.specs.IdlePlaces.{HasIdle}
-use Rattle.mapdb_rights.specs.LivePlaces.{AreLive}
+use Rattle.mapdb_rights.specs.LivePlaces.{AreLive, ListsLive}
+use Rattle.mapdb_rights.specs.Pending.{AreSettledBut}
+use Rattle.mapdb_rights.specs.declared.index.stale.Stale.{Stale}
 
 -- the source of each record that is held is listed, as far as it is not revoked, and of no other
 -- record a source or a place, and what is listed is aligned; each record that is held stands under
@@ -38,6 +40,15 @@ pub record Shows (changes : AllChanges) (live : Places) (S : State) : Type 0 whe
   pub rights : AreRights S (cached_in changes.own.entries)
   pub frames : AreFrames S changes.own.entries
   pub live_there : AreLive S live
+
+-- So it does but for pages that are stale: those of all others follow from the parents', no frame is
+-- wrong, and the records that have rights by what is cached are listed.
+pub record ShowsBut (changes : AllChanges) (listed live : Places) (S : State)
+    (stale : List Stale) : Type 0 where
+  pub listed_there : AreListed S listed
+  pub settled : AreSettledBut S (cached_in changes.own.entries) stale
+  pub frames : AreFrames S changes.own.entries
+  pub live_there : ListsLive S (cached_in changes.own.entries) live
 
 -- What is kept stands for the state: what questions go over, and the records that are held are
 -- listed, each with its source, and with its place where it has no right.

@@ -10,11 +10,8 @@ ghost use Rattle.mapdb_lists.specs.Changes.{cached_in};
 ghost use Rattle.mapdb_lists.specs.Listing.{is_listed};
 ghost use Rattle.mapdb_lists.specs.declared.places.Listed.{Listed};
 ghost use Rattle.mapdb_lists.specs.declared.places.Owner.TheVariants as owners;
-ghost use Rattle.mapdb_rights.specs.CachedFrames.{AreFrames};
-ghost use Rattle.mapdb_rights.specs.Following.{AreListed, Shows};
+ghost use Rattle.mapdb_rights.specs.Following.{Shows, ShowsBut};
 ghost use Rattle.mapdb_rights.specs.IdlePlaces.{StayNoted};
-ghost use Rattle.mapdb_rights.specs.LivePlaces.{ListsLive};
-ghost use Rattle.mapdb_rights.specs.Pending.{AreSettledBut};
 ghost use Rattle.mapdb_rights.specs.Stepping.{Follows};
 
 use super::live_places::follow_live;
@@ -50,12 +47,8 @@ fn give(
     given: Stretch,
 ) -> Result<(), AllocError>
     requires some { run.first < run.end }
-    requires listed { AreListed (state_of_facts facts.now) listed.now }
-    requires settled { AreSettledBut (state_of_facts facts.now) (cached_in changes.old.own.entries)
+    requires shows_but { ShowsBut changes.old listed.now live.old (state_of_facts facts.now)
         (run ∷ []) }
-    requires frames { AreFrames (state_of_facts facts.now) changes.old.own.entries }
-    requires live { ListsLive (state_of_facts facts.now) (cached_in changes.old.own.entries)
-        live.old }
     requires follows { Follows (state_of_facts facts.now) changes.old.own.entries run.id run.first
         run.end given.change }
     requires bare { lookup (same_id run.id) changes.old.own.entries ≡ None }
@@ -93,12 +86,8 @@ fn settle_by_steps(
     facts: &Facts,
     run: Stale,
 ) -> Result<(), AllocError>
-    requires listed { AreListed (state_of_facts facts.now) listed.now }
-    requires settled { AreSettledBut (state_of_facts facts.now) (cached_in changes.old.own.entries)
+    requires { ShowsBut changes.old listed.now live.old (state_of_facts facts.now)
         (run ∷ []) }
-    requires frames { AreFrames (state_of_facts facts.now) changes.old.own.entries }
-    requires live { ListsLive (state_of_facts facts.now) (cached_in changes.old.own.entries)
-        live.old }
     ensures shows { OnOk result (Shows changes.new live.new (state_of_facts facts.now)) }
     ensures noted { OnOk result (StayNoted (cached_in changes.old.own.entries) idle.old.items
         (cached_in changes.new.own.entries) idle.new.items) }
@@ -121,12 +110,8 @@ pub(crate) fn settle_from(
     facts: &Facts,
     run: Stale,
 ) -> Result<bool, AllocError>
-    requires listed { AreListed (state_of_facts facts.now) listed.now }
-    requires settled { AreSettledBut (state_of_facts facts.now) (cached_in changes.old.own.entries)
+    requires { ShowsBut changes.old listed.now live.old (state_of_facts facts.now)
         (run ∷ []) }
-    requires frames { AreFrames (state_of_facts facts.now) changes.old.own.entries }
-    requires live { ListsLive (state_of_facts facts.now) (cached_in changes.old.own.entries)
-        live.old }
     ensures shows { OnOk result (Shows changes.new live.new (state_of_facts facts.now)) }
     ensures noted { OnOk result (StayNoted (cached_in changes.old.own.entries) idle.old.items
         (cached_in changes.new.own.entries) idle.new.items) }

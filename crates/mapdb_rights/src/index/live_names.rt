@@ -1,6 +1,6 @@
 //! The records of a space that have a right at a page, found among the places that hold it.
 
-ghost use Rattle.std.specs.Prelude.{◌≡◌, ◌&&◌, not, true, IfOk};
+ghost use Rattle.std.specs.Prelude.{◌≡◌, ◌<◌, ◌&&◌, not, true, IfOk};
 ghost use Rattle.mapdb_facts.specs.Facts.{records_of_facts, state_of_facts};
 ghost use Rattle.mapdb_facts.specs.Names.{is_after, is_first_space, root};
 ghost use Rattle.mapdb_fpage.specs.Bounds.{page_limit};
@@ -16,7 +16,7 @@ ghost use Rattle.mapdb_rights.specs.Right.{rights_at};
 
 use mapdb_facts::{Facts, RecordId, Space};
 use mapdb_fpage::PAGE_LIMIT;
-use mapdb_lists::{AllChanges, Listed, Owner, Places, cached_at};
+use mapdb_lists::{AllChanges, FIRST_LIMIT, Listed, Owner, Places, cached_at};
 use std::alloc::{AllocError, Global};
 
 /// The lesser of two names.
@@ -33,6 +33,7 @@ fn lesser(one: Option<RecordId>, other: Option<RecordId>) -> Option<RecordId>
 /// The first entry of a place's owner that stands at the place under a name above another, or
 /// behind the place.
 fn entry_after(live: &Places, place: Listed, after: Option<RecordId>) -> Option<Listed>
+    requires { place.first < FIRST_LIMIT }
     ensures { IsFirstInside live.now place.owner (behind_name place after) result }
 {
     match after {
@@ -46,6 +47,7 @@ fn entry_after(live: &Places, place: Listed, after: Option<RecordId>) -> Option<
 
 /// The least name above another, or of all, that stands at the place.
 fn name_after(live: &Places, place: Listed, after: Option<RecordId>) -> Option<RecordId>
+    requires { place.first < FIRST_LIMIT }
     ensures { IsLeastOf (StandsAt live.now place) (StandsAt live.now place) after result }
 {
     match entry_after(live, place, after) {
@@ -83,6 +85,7 @@ fn shown_after(
 ) -> Option<RecordId>
     requires stands { Shows changes.now live.now (state_of_facts facts.now) }
     requires owned { place.owner ≡ owners.Space space }
+    requires near { place.first < FIRST_LIMIT }
     ensures { IsLeastOf (IsShown (state_of_facts facts.now) space page)
         (IsShownAt live.now (state_of_facts facts.now) space page place) after result }
 {

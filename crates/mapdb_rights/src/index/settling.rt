@@ -7,7 +7,7 @@ ghost use Rattle.mapdb_facts.specs.Facts.{state_of_facts};
 ghost use Rattle.mapdb_facts.specs.declared.names.RecordId.{RecordId};
 ghost use Rattle.mapdb_lists.specs.Changes.{covers, cached_in};
 ghost use Rattle.mapdb_rights.specs.CachedFrames.{AreFrames};
-ghost use Rattle.mapdb_rights.specs.Following.{AreListed, Shows};
+ghost use Rattle.mapdb_rights.specs.Following.{Shows, ShowsBut};
 ghost use Rattle.mapdb_rights.specs.IdlePlaces.{StayNoted};
 ghost use Rattle.mapdb_rights.specs.LivePlaces.{ListsLive};
 ghost use Rattle.mapdb_rights.specs.Pending.{AreSettledBut, IsPending, base_of, weight, worth};
@@ -57,12 +57,8 @@ fn settle_next(
     facts: &Facts,
     stale: Stale,
 ) -> Result<(), AllocError>
-    requires listed { AreListed (state_of_facts facts.now) listed.now }
-    requires settled { AreSettledBut (state_of_facts facts.now) (cached_in changes.old.own.entries)
+    requires { ShowsBut changes.old listed.now live.old (state_of_facts facts.now)
         (stack.old.items ++ stale ∷ []) }
-    requires frames { AreFrames (state_of_facts facts.now) changes.old.own.entries }
-    requires live { ListsLive (state_of_facts facts.now) (cached_in changes.old.own.entries)
-        live.old }
     ensures frames { OnOk result (AreFrames (state_of_facts facts.now) changes.new.own.entries) }
     ensures live { OnOk result (ListsLive (state_of_facts facts.now)
         (cached_in changes.new.own.entries) live.new) }
@@ -110,12 +106,8 @@ pub fn settle(
     listed: &Places,
     facts: &Facts,
 ) -> Result<(), AllocError>
-    requires listed { AreListed (state_of_facts facts.now) listed.now }
-    requires settled { AreSettledBut (state_of_facts facts.now) (cached_in changes.old.own.entries)
+    requires { ShowsBut changes.old listed.now live.old (state_of_facts facts.now)
         stack.old.items }
-    requires frames { AreFrames (state_of_facts facts.now) changes.old.own.entries }
-    requires live { ListsLive (state_of_facts facts.now) (cached_in changes.old.own.entries)
-        live.old }
     ensures shows { OnOk result (Shows changes.new live.new (state_of_facts facts.now)) }
     ensures noted { OnOk result (StayNoted (cached_in changes.old.own.entries) idle.old.items
         (cached_in changes.new.own.entries) idle.new.items) }

@@ -5,6 +5,7 @@ ghost use Rattle.std.specs.Prelude.{◌≡◌, ◌↔◌, IsTrue, true};
 ghost use Rattle.mapdb_facts.specs.Facts.{state_of_facts};
 ghost use Rattle.mapdb_facts.specs.Looking.{Holds};
 ghost use Rattle.mapdb_facts.specs.State.{State};
+ghost use Rattle.mapdb_facts.specs.WellFormed.{IsFormedRecord};
 ghost use Rattle.mapdb_lists.specs.Changes.{Cached};
 ghost use Rattle.mapdb_lists.specs.Listing.{AllAligned, is_listed};
 ghost use Rattle.mapdb_lists.specs.declared.places.Listed.{Listed};
@@ -43,6 +44,7 @@ fn is_childless(listed: &Places, id: RecordId) -> bool
 
 /// Lets go of the source of a revoked record.
 fn unlist_source(listed: &mut Places, mapping: &Record)
+    requires { IsFormedRecord mapping.now }
     ensures listed { (S : State) → AreListed S listed.old → Holds S mapping.now
         → IsRevoked S mapping.now → AreListed S listed.new }
     ensures idle { (S : State) (cached : Cached) → HasIdle S cached listed.old

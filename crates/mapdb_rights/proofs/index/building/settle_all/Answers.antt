@@ -17,29 +17,28 @@ use Rattle.mapdb_rights.proofs.Settling.Pendings.{pending_last}
 use Rattle.mapdb_rights.proofs.Settling.Settlement.{to_covers}
 use Rattle.mapdb_rights.proofs.index.building.settle_all.Goals as goal
 
-pub settle-requires-clause-settled : goal.settle-requires-clause-settled
-settle-requires-clause-settled c =
-    let S : State = state_of_facts c.args.facts.now in
-    subst (λ e. AreSettledBut S (cached_in e) c.push_children.new.stack.items) (sym c.requires.changes)
-    (left_from_nothing S c.push_children.new.stack.items
-    (λ page below. c.in_ok-push_children.ensures.kept root page (rw c.in_ok-push.ensures.ok (pending_last _ _ root page (to_covers root 0 page_limit page (omega arith) below))))
-    (λ id r held parent page inside.
-    let named = c.in_ok-list_sources.ensures.listed.named id r held in
-    let own : S.record_at r.id ≡ Some r = ap S.record_at named ∙ held in
-    let formed = c.in_ok-list_sources.ensures.listed.formed r own in
-    let source = c.in_ok-list_sources.ensures.all r own in
-    let below = source_below r page source.place formed inside in
-    subst (λ (o : RecordId). IsPending c.push_children.new.stack.items o page) named
-    (c.in_ok-push_children.ensures.stale r own formed source.by_parent parent page inside (omega arith) below)))
-
-pub settle-requires-clause-frames : goal.settle-requires-clause-frames
-settle-requires-clause-frames c = subst (λ e. AreFrames (state_of_facts c.args.facts.now) e) (sym c.requires.changes) (no_change_frames (state_of_facts c.args.facts.now))
-
-pub settle-requires-clause-live : goal.settle-requires-clause-live
-settle-requires-clause-live c =
-    let S : State = state_of_facts c.args.facts.now in
-    subst (λ e. ListsLive S (cached_in e) c.args.live.now) (sym c.requires.changes)
-    (none_live S c.args.live.now c.in_ok-list_sources.ensures.listed.formed c.requires.no_place)
+pub settle-requires : goal.settle-requires
+settle-requires c = record {
+  listed_there = c.in_ok-list_sources.ensures.listed;
+  settled =
+      let S : State = state_of_facts c.args.facts.now in
+      subst (λ e. AreSettledBut S (cached_in e) c.push_children.new.stack.items) (sym c.requires.changes)
+      (left_from_nothing S c.push_children.new.stack.items
+      (λ page below. c.in_ok-push_children.ensures.kept root page (rw c.in_ok-push.ensures.ok (pending_last _ _ root page (to_covers root 0 page_limit page (omega arith) below))))
+      (λ id r held parent page inside.
+      let named = c.in_ok-list_sources.ensures.listed.named id r held in
+      let own : S.record_at r.id ≡ Some r = ap S.record_at named ∙ held in
+      let formed = c.in_ok-list_sources.ensures.listed.formed r own in
+      let source = c.in_ok-list_sources.ensures.all r own in
+      let below = source_below r page source.place formed inside in
+      subst (λ (o : RecordId). IsPending c.push_children.new.stack.items o page) named
+      (c.in_ok-push_children.ensures.stale r own formed source.by_parent parent page inside (omega arith) below)));
+  frames = subst (λ e. AreFrames (state_of_facts c.args.facts.now) e) (sym c.requires.changes) (no_change_frames (state_of_facts c.args.facts.now));
+  live_there =
+      let S : State = state_of_facts c.args.facts.now in
+      subst (λ e. ListsLive S (cached_in e) c.args.live.now) (sym c.requires.changes)
+      (none_live S c.args.live.now c.in_ok-list_sources.ensures.listed.formed c.requires.no_place);
+}
 
 pub returns : goal.returns
 returns c =

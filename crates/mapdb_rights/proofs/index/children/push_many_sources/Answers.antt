@@ -33,7 +33,7 @@ children-preserved c =
             | inl later ↦ elim (c.in-Some.ensures.rest (own_place (source_of r)) later (source_meets r c.args.first c.args.end page inside low high)) [
               | inr behind ↦ inl behind
               | inl one ↦
-                  let name : next.place.id ≡ r.id = ap (λ (p : OwnPlace). p.id) one in
+                  let name : c.id.result ≡ r.id = c.id.ensures ∙ ap (λ (p : OwnPlace). p.id) one in
                   inr (subst (λ (o : RecordId). IsPending c.push_held.new.stack.items o page) name
                   (c.in_ok-push_held.ensures.stale r (ap S.record_at name ∙ held) (ap (λ (o : RecordId). same_id o c.args.parent) parent ∙ same_id_itself c.args.parent) page inside low high))
             ]

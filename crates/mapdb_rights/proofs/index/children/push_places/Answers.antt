@@ -21,7 +21,7 @@ places-preserved c r held place has page inside =
       | inl later ↦ elim (c.in-Some.ensures.rest (own_place (place_of r)) later (place_meets r page place inside)) [
         | inr behind ↦ inl behind
         | inl one ↦
-            let name : c.in-Some.next.place.id ≡ r.id = ap (λ (p : OwnPlace). p.id) one in
+            let name : c.id.result ≡ r.id = c.id.ensures ∙ ap (λ (p : OwnPlace). p.id) one in
             inr (subst (λ (o : RecordId). IsPending c.push_place.new.stack.items o page) name (c.in_ok-push_place.ensures.stale r (ap S.record_at name ∙ held) page inside))
       ]
     ]

@@ -32,9 +32,9 @@ returns-in_default-clause-shows c =
     let replaced = c.in_ok-replaced.ensures.replaced in
     let end = c.in_ok-replaced.replaced.end in
     let as_before = kept c.in_default.is replaced.how in
-    shown S c.begin.new.changes c.args.listed.now c.args.live.now c.requires.listed
+    shown S c.begin.new.changes c.args.listed.now c.args.live.now c.requires.shows_but.listed_there
     (subst (λ (cached : Cached). AreSettledBut S cached []) (sym (still as_before))
-    (step_settled S old old [] [] [] c.args.run end c.requires.settled (λ id page pending. pending)
+    (step_settled S old old [] [] [] c.args.run end c.requires.shows_but.settled (λ id page pending. pending)
     (λ other page inside. none_behind c.args.run.id end c.args.run.end c.in_ok-replaced.ensures.whole other page inside)
     (λ id page pending. pending)
     (λ id page before. inl (settled_already S old old c.args.run.id c.args.run.first end c.args.given.change.rights
@@ -43,8 +43,8 @@ returns-in_default-clause-shows c =
     (λ id page some.
     let is = as_before.same id page in
     subst (λ (t : Change). HasFrame S id page t.shift) (sym is)
-    (c.requires.frames id page (ap (λ (t : Change). is_empty t.rights) (sym is) ∙ some)))
-    (subst (λ (cached : Cached). ListsLive S cached c.args.live.now) (sym (still as_before)) c.requires.live)
+    (c.requires.shows_but.frames id page (ap (λ (t : Change). is_empty t.rights) (sym is) ∙ some)))
+    (subst (λ (cached : Cached). ListsLive S cached c.args.live.now) (sym (still as_before)) c.requires.shows_but.live_there)
 
 pub returns-clause-shows : goal.returns-clause-shows
 returns-clause-shows c =
@@ -55,23 +55,23 @@ returns-clause-shows c =
     let end = c.in_ok-replaced.replaced.end in
     let given = got c.in-Some.is replaced.how in
     on_ok_weaker c.follow_live.result
-    (λ lists. shown S c.begin.new.changes c.args.listed.now c.follow_live.new.live c.requires.listed
-    (step_settled S old new [] [] [] c.args.run end c.requires.settled (λ id page pending. pending)
+    (λ lists. shown S c.begin.new.changes c.args.listed.now c.follow_live.new.live c.requires.shows_but.listed_there
+    (step_settled S old new [] [] [] c.args.run end c.requires.shows_but.settled (λ id page pending. pending)
     (λ other page inside. none_behind c.args.run.id end c.args.run.end c.in_ok-replaced.ensures.whole other page inside)
     (λ id page pending. pending)
     (settled_after S old new c.args.run.id c.args.run.first end c.args.given.change.rights
     (λ q from before_end. c.requires.follows.rights q from (let w = replaced.within in omega (arith, w)))
-    given.cached c.requires.listed.named c.requires.listed.formed []
+    given.cached c.requires.shows_but.listed_there.named c.requires.shows_but.listed_there.formed []
     (λ other r held parent page inside from before.
-    let named = c.requires.listed.named other r held in
+    let named = c.requires.shows_but.listed_there.named other r held in
     let own : S.record_at r.id ≡ Some r = ap S.record_at named ∙ held in
-    elim (c.requires.listed.sources r own).by_parent [
+    elim (c.requires.shows_but.listed_there.sources r own).by_parent [
       | inl revoked ↦ inl revoked
       | inr listed ↦ absurd (c.requires.childless _ (ap owners.Record parent) listed)
     ])))
     (frames_written S c.args.changes.now.own.entries c.begin.new.changes.own.entries c.args.run.id c.args.run.first end
-    c.args.given.change c.requires.frames
-    (λ some q from before. c.requires.follows.frames c.requires.frames some q from (let w = replaced.within in omega (arith, w)))
+    c.args.given.change c.requires.shows_but.frames
+    (λ some q from before. c.requires.follows.frames c.requires.shows_but.frames some q from (let w = replaced.within in omega (arith, w)))
     given.seen)
     lists)
     c.follow_live.ensures.live

@@ -1,9 +1,9 @@
-use Rattle.std.proofs.Common.{◌+◌, ◌<◌, ◌≡◌, ◌∙◌, ◌≤◌, ◌++◌, [], ◌∷◌, List, ap, arith, get_or, refl, subst, sym, take}
+use Rattle.std.proofs.Common.{◌+◌, ◌<◌, ◌≡◌, ◌∙◌, ◌≤◌, ◌++◌, [], ◌∷◌, List, ap, arith, refl, true, subst, sym, take}
 use Rattle.std.proofs.lemmas.Bool.{false≢true}
 use Rattle.std.proofs.lemmas.List.{take_all, take_more}
 use Rattle.mapdb_facts.specs.Facts.{state_of_facts}
 use Rattle.mapdb_lists.specs.Changes.{cached_in}
-use Rattle.mapdb_lists.specs.Listing.{owner_places}
+use Rattle.mapdb_lists.specs.Listing.{is_listed, listed_for, owner_places}
 use Rattle.mapdb_lists.specs.OwnPlaces.{stands}
 use Rattle.mapdb_lists.specs.declared.own_places.OwnPlace.{OwnPlace}
 use Rattle.mapdb_lists.specs.declared.places.Owner.TheVariants as owners
@@ -31,7 +31,9 @@ loop-place-init c =
     }
 
 pub with_place-with-requires-clause-listed : goal.with_place-with-requires-clause-listed
-with_place-with-requires-clause-listed c = c.requires.listed _ (item_stands c.args.held.now c.loop-place.place-index _ c.loop-place-test.true)
+with_place-with-requires-clause-listed c =
+    subst (λ (p : OwnPlace). is_listed c.args.live.now (listed_for (owners.Space c.args.space) p) ≡ true) (sym c.place-item.is)
+    (c.requires.listed _ (item_stands c.args.held.now c.loop-place.place-index c.place-item.result c.loop-place-test.true))
 
 pub loop-place-preserved : goal.loop-place-preserved
 loop-place-preserved c =
@@ -40,8 +42,9 @@ loop-place-preserved c =
     let lives = c.requires.stands.live_there in
     let held = c.args.held.now in
     let i = c.loop-place.place-index in
-    let next : OwnPlace = get_or held i (record { order = 0; first = 0; id = record { number = 0; processor = 0 } }) in
-    let more : take (i + 1) held ≡ take i held ++ next ∷ [] = take_more held i (record { order = 0; first = 0; id = record { number = 0; processor = 0 } }) c.loop-place-test.true in
+    let next : OwnPlace = c.place-item.result in
+    let more : take (i + 1) held ≡ take i held ++ next ∷ [] =
+    take_more held i next c.loop-place-test.true ∙ ap (λ (p : OwnPlace). take i held ++ p ∷ []) (sym c.place-item.is) in
     let above : c.args.page < c.loop-place.end = c.loop-place.invariant.above in
     let limit : c.loop-place.end ≤ c.args.until = c.loop-place.invariant.limit in
     let further : c.args.page < c.with_place-with.result.end = c.with_place-with.ensures.above in

@@ -15,27 +15,22 @@ use Rattle.mapdb_rights.proofs.Settling.LiveRecords.{live_later}
 use Rattle.mapdb_rights.proofs.Settling.Pendings.{pending_last}
 use Rattle.mapdb_rights.proofs.index.following.follow_cut.Goals as goal
 
-pub settle-requires-clause-listed : goal.settle-requires-clause-listed
-settle-requires-clause-listed c =
-    listed_by_cut (state_of_facts c.args.facts.now) c.requires.stood.before c.args.cut.now c.args.listed.now c.requires.stood.is c.requires.stood.stood.listed_there
-
-pub settle-requires-clause-settled : goal.settle-requires-clause-settled
-settle-requires-clause-settled c =
-    left_by_op (state_of_facts c.args.facts.now) c.requires.stood.before (Cut c.args.cut.now) (cached_in c.args.changes.now.own.entries) c.add_item.new.list.items
-    c.requires.stood.is c.requires.stood.stood.shows.rights
-    (λ id page unsettles. rw c.in_ok-add_item.ensures (pending_last _ _ id page
-    ((λ i. same_id c.args.cut.now.target id && (nat_le (c.first_page.ensures.page i) page && nat_lt page (c.end.ensures.end i)))
-    ∙ and_from (same_id c.args.cut.now.target id) (holds c.args.cut.now.part page) unsettles.0 unsettles.1)))
-
-pub settle-requires-clause-frames : goal.settle-requires-clause-frames
-settle-requires-clause-frames c = frames_by_op (state_of_facts c.args.facts.now) c.requires.stood.before (Cut c.args.cut.now) c.args.changes.now.own.entries c.requires.stood.is c.requires.stood.stood.shows.frames
-
-pub settle-requires-clause-live : goal.settle-requires-clause-live
-settle-requires-clause-live c =
-    let S = state_of_facts c.args.facts.now in
-    let stood = c.requires.stood in
-    live_later S stood.before (said (Cut c.args.cut.now)) (cached_in c.args.changes.now.own.entries) c.args.live.now stood.is
-    (listed_by_cut S stood.before c.args.cut.now c.args.listed.now stood.is stood.stood.listed_there).formed stood.stood.shows.rights stood.stood.shows.live_there
+pub settle-requires : goal.settle-requires
+settle-requires c = record {
+  listed_there = listed_by_cut (state_of_facts c.args.facts.now) c.requires.stood.before c.args.cut.now c.args.listed.now c.requires.stood.is c.requires.stood.stood.listed_there;
+  settled =
+      left_by_op (state_of_facts c.args.facts.now) c.requires.stood.before (Cut c.args.cut.now) (cached_in c.args.changes.now.own.entries) c.add_item.new.list.items
+      c.requires.stood.is c.requires.stood.stood.shows.rights
+      (λ id page unsettles. rw c.in_ok-add_item.ensures (pending_last _ _ id page
+      ((λ i. same_id c.args.cut.now.target id && (nat_le (c.first_page.ensures.page i) page && nat_lt page (c.end.ensures.end i)))
+      ∙ and_from (same_id c.args.cut.now.target id) (holds c.args.cut.now.part page) unsettles.0 unsettles.1)));
+  frames = frames_by_op (state_of_facts c.args.facts.now) c.requires.stood.before (Cut c.args.cut.now) c.args.changes.now.own.entries c.requires.stood.is c.requires.stood.stood.shows.frames;
+  live_there =
+      let S = state_of_facts c.args.facts.now in
+      let stood = c.requires.stood in
+      live_later S stood.before (said (Cut c.args.cut.now)) (cached_in c.args.changes.now.own.entries) c.args.live.now stood.is
+      (listed_by_cut S stood.before c.args.cut.now c.args.listed.now stood.is stood.stood.listed_there).formed stood.stood.shows.rights stood.stood.shows.live_there;
+}
 
 pub list_idle-requires : goal.list_idle-requires
 list_idle-requires c =

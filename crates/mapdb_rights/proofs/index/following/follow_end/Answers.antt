@@ -22,37 +22,32 @@ use Rattle.mapdb_rights.proofs.index.following.follow_end.Goals as goal
 pub push_space-requires : goal.push_space-requires
 push_space-requires c = c.requires.stood.stood.shows.live_there.listed.aligned
 
-pub settle-requires-clause-listed : goal.settle-requires-clause-listed
-settle-requires-clause-listed c =
-    listed_by_end (state_of_facts c.args.facts.now) c.requires.stood.before c.args.space c.args.listed.now c.requires.stood.is c.requires.stood.stood.listed_there
-
-pub settle-requires-clause-settled : goal.settle-requires-clause-settled
-settle-requires-clause-settled c =
-    let S : State = state_of_facts c.args.facts.now in
-    left_by_op S c.requires.stood.before (Closed c.args.space) (cached_in c.args.changes.now.own.entries) c.push_space.new.stack.items
-    c.requires.stood.is c.requires.stood.stood.shows.rights
-    (λ id page unsettles.
-    let there : AreListed S c.args.listed.now = listed_by_end S c.requires.stood.before c.args.space c.args.listed.now c.requires.stood.is c.requires.stood.stood.listed_there in
-    let r : Record = unsettles.0 in
-    let held : S.record_at id ≡ Some r = ap (λ (T : State). T.record_at id) c.requires.stood.is ∙ first_of_none (c.requires.stood.before.record_at id) ∙ unsettles.1 in
-    let named = there.named id r held in
-    let own : S.record_at r.id ≡ Some r = ap S.record_at named ∙ held in
-    let other : is_root id ≡ false = subst (λ (o : RecordId). is_root o ≡ false) named (numbered_is_other r.id (there.formed r own).has_number) in
-    subst (λ (o : RecordId). IsPending c.push_space.new.stack.items o page) named
-    (c.in_ok-push_space.ensures r own (there.sources r own).place
-    (c.requires.stood.stood.shows.live_there.listed.places r (ap c.requires.stood.before.record_at named ∙ unsettles.1)
-    (page, subst (λ (o : RecordId). is_empty (rights_at c.requires.stood.before o page) ≡ false) (sym named) unsettles.3))
-    unsettles.2 page (rights_in_place c.requires.stood.before id r page other unsettles.1 unsettles.3)))
-
-pub settle-requires-clause-frames : goal.settle-requires-clause-frames
-settle-requires-clause-frames c = frames_by_op (state_of_facts c.args.facts.now) c.requires.stood.before (Closed c.args.space) c.args.changes.now.own.entries c.requires.stood.is c.requires.stood.stood.shows.frames
-
-pub settle-requires-clause-live : goal.settle-requires-clause-live
-settle-requires-clause-live c =
-    let S = state_of_facts c.args.facts.now in
-    let stood = c.requires.stood in
-    live_later S stood.before (said (Closed c.args.space)) (cached_in c.args.changes.now.own.entries) c.args.live.now stood.is
-    (listed_by_end S stood.before c.args.space c.args.listed.now stood.is stood.stood.listed_there).formed stood.stood.shows.rights stood.stood.shows.live_there
+pub settle-requires : goal.settle-requires
+settle-requires c = record {
+  listed_there = listed_by_end (state_of_facts c.args.facts.now) c.requires.stood.before c.args.space c.args.listed.now c.requires.stood.is c.requires.stood.stood.listed_there;
+  settled =
+      let S : State = state_of_facts c.args.facts.now in
+      left_by_op S c.requires.stood.before (Closed c.args.space) (cached_in c.args.changes.now.own.entries) c.push_space.new.stack.items
+      c.requires.stood.is c.requires.stood.stood.shows.rights
+      (λ id page unsettles.
+      let there : AreListed S c.args.listed.now = listed_by_end S c.requires.stood.before c.args.space c.args.listed.now c.requires.stood.is c.requires.stood.stood.listed_there in
+      let r : Record = unsettles.0 in
+      let held : S.record_at id ≡ Some r = ap (λ (T : State). T.record_at id) c.requires.stood.is ∙ first_of_none (c.requires.stood.before.record_at id) ∙ unsettles.1 in
+      let named = there.named id r held in
+      let own : S.record_at r.id ≡ Some r = ap S.record_at named ∙ held in
+      let other : is_root id ≡ false = subst (λ (o : RecordId). is_root o ≡ false) named (numbered_is_other r.id (there.formed r own).has_number) in
+      subst (λ (o : RecordId). IsPending c.push_space.new.stack.items o page) named
+      (c.in_ok-push_space.ensures r own (there.sources r own).place
+      (c.requires.stood.stood.shows.live_there.listed.places r (ap c.requires.stood.before.record_at named ∙ unsettles.1)
+      (page, subst (λ (o : RecordId). is_empty (rights_at c.requires.stood.before o page) ≡ false) (sym named) unsettles.3))
+      unsettles.2 page (rights_in_place c.requires.stood.before id r page other unsettles.1 unsettles.3)));
+  frames = frames_by_op (state_of_facts c.args.facts.now) c.requires.stood.before (Closed c.args.space) c.args.changes.now.own.entries c.requires.stood.is c.requires.stood.stood.shows.frames;
+  live_there =
+      let S = state_of_facts c.args.facts.now in
+      let stood = c.requires.stood in
+      live_later S stood.before (said (Closed c.args.space)) (cached_in c.args.changes.now.own.entries) c.args.live.now stood.is
+      (listed_by_end S stood.before c.args.space c.args.listed.now stood.is stood.stood.listed_there).formed stood.stood.shows.rights stood.stood.shows.live_there;
+}
 
 pub list_idle-requires : goal.list_idle-requires
 list_idle-requires c =

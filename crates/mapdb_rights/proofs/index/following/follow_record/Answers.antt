@@ -20,24 +20,23 @@ use Rattle.mapdb_rights.proofs.index.following.follow_record.Goals as goal
 pub list_came-requires : goal.list_came-requires
 list_came-requires c = record { before = c.requires.stood.before; is = c.requires.stood.is; listed_there = c.requires.stood.stood.listed_there }
 
-pub settle_from-requires-clause-settled : goal.settle_from-requires-clause-settled
-settle_from-requires-clause-settled c id page =
-    let cached : Cached = cached_in c.args.changes.now.own.entries in
-    elim (operations_unsettle c.requires.stood.before (Born c.args.mapping.now) cached c.requires.stood.stood.shows.rights id page) [
-      | inl settled ↦ inl (subst (λ (T : State). IsSettled T cached id page) (sym c.requires.stood.is) settled)
-      | inr unsettles ↦ inr (inl
-          ((λ i. same_id c.args.mapping.now.id id && (nat_le (c.first_page.ensures.page i) page && nat_lt page (c.end.ensures.end i)))
-          ∙ and_from (same_id c.args.mapping.now.id id) (holds c.args.mapping.now.place page) unsettles.0 unsettles.1))
-    ]
-
-pub settle_from-requires-clause-frames : goal.settle_from-requires-clause-frames
-settle_from-requires-clause-frames c = frames_by_op (state_of_facts c.args.facts.now) c.requires.stood.before (Born c.args.mapping.now) c.args.changes.now.own.entries c.requires.stood.is c.requires.stood.stood.shows.frames
-
-pub settle_from-requires-clause-live : goal.settle_from-requires-clause-live
-settle_from-requires-clause-live c =
-    let stood = c.requires.stood in
-    live_later (state_of_facts c.args.facts.now) stood.before (said (Born c.args.mapping.now)) (cached_in c.args.changes.now.own.entries) c.args.live.now stood.is
-    c.in_ok-list_came.ensures.listed.formed stood.stood.shows.rights stood.stood.shows.live_there
+pub settle_from-requires : goal.settle_from-requires
+settle_from-requires c = record {
+  listed_there = c.in_ok-list_came.ensures.listed;
+  settled =
+      λ id page. let cached : Cached = cached_in c.args.changes.now.own.entries in
+      elim (operations_unsettle c.requires.stood.before (Born c.args.mapping.now) cached c.requires.stood.stood.shows.rights id page) [
+        | inl settled ↦ inl (subst (λ (T : State). IsSettled T cached id page) (sym c.requires.stood.is) settled)
+        | inr unsettles ↦ inr (inl
+            ((λ i. same_id c.args.mapping.now.id id && (nat_le (c.first_page.ensures.page i) page && nat_lt page (c.end.ensures.end i)))
+            ∙ and_from (same_id c.args.mapping.now.id id) (holds c.args.mapping.now.place page) unsettles.0 unsettles.1))
+      ];
+  frames = frames_by_op (state_of_facts c.args.facts.now) c.requires.stood.before (Born c.args.mapping.now) c.args.changes.now.own.entries c.requires.stood.is c.requires.stood.stood.shows.frames;
+  live_there =
+      let stood = c.requires.stood in
+      live_later (state_of_facts c.args.facts.now) stood.before (said (Born c.args.mapping.now)) (cached_in c.args.changes.now.own.entries) c.args.live.now stood.is
+      c.in_ok-list_came.ensures.listed.formed stood.stood.shows.rights stood.stood.shows.live_there;
+}
 
 pub returns : goal.returns
 returns c =

@@ -1,14 +1,16 @@
-use Rattle.std.proofs.Common.{[], ◌+◌, ◌++◌, ◌∙◌, ◌∷◌, ◌≡◌, List, ap, arith, get_or, refl, subst, sym, take}
+use Rattle.std.proofs.Common.{[], ◌+◌, ◌++◌, ◌∙◌, ◌∷◌, ◌≡◌, List, ap, arith, refl, true, subst, sym, take}
 use Rattle.std.proofs.lemmas.Bool.{false≢true}
 use Rattle.std.proofs.lemmas.List.{take_all, take_more}
 use Rattle.mapdb_facts.specs.Facts.{state_of_facts}
+use Rattle.mapdb_facts.specs.declared.names.RecordId.{RecordId}
 use Rattle.mapdb_fpage.specs.declared.right_sets.Rights.{Rights}
+use Rattle.mapdb_lists.specs.Changes.{seen_in}
 use Rattle.mapdb_lists.specs.Listing.{owner_places}
 use Rattle.mapdb_lists.specs.OwnPlaces.{stands}
 use Rattle.mapdb_lists.specs.declared.own_places.OwnPlace.{OwnPlace}
 use Rattle.mapdb_lists.specs.declared.places.Owner.TheVariants as owners
 use Rattle.mapdb_lists.proofs.PlaceLemmas.LeastPlaces.{item_stands}
-use Rattle.mapdb_rights.specs.First.{IsJoined}
+use Rattle.mapdb_rights.specs.First.{IsJoined, joined_as_far}
 use Rattle.mapdb_rights.proofs.Live.HeldRights.{RightsHeld, rights_held_on}
 use Rattle.mapdb_rights.proofs.Live.PassedPlaces.{passed_all}
 use Rattle.mapdb_rights.proofs.index.frame_rights.held_frame_rights.Goals as goal
@@ -26,12 +28,15 @@ loop-place-preserved c =
     let changes = c.args.changes.now.own.entries in
     let held = c.args.held.now in
     let i = c.loop-place.place-index in
-    let none : OwnPlace = record { order = 0; first = 0; id = record { number = 0; processor = 0 } } in
-    let next : OwnPlace = get_or held i none in
-    subst (λ (l : List OwnPlace). RightsHeld S changes c.args.space c.args.page c.args.shift l c.with_record-known.result) (sym (take_more held i none c.loop-place-test.true))
+    let next : OwnPlace = c.place-item.result in
+    let more : take (i + 1) held ≡ take i held ++ next ∷ [] =
+    take_more held i next c.loop-place-test.true ∙ ap (λ (p : OwnPlace). take i held ++ p ∷ []) (sym c.place-item.is) in
+    subst (λ (l : List OwnPlace). RightsHeld S changes c.args.space c.args.page c.args.shift l c.with_record-known.result) (sym more)
     (subst (λ (r : Rights). RightsHeld S changes c.args.space c.args.page c.args.shift (take i held ++ next ∷ []) r) (sym c.with_record-known.ensures)
+    (subst (λ (o : RecordId). RightsHeld S changes c.args.space c.args.page c.args.shift (take i held ++ next ∷ [])
+    (joined_as_far c.args.shift (seen_in changes o c.args.page) c.loop-place.known)) (sym c.id.ensures)
     (rights_held_on S changes c.args.space c.args.page c.args.shift c.requires.stands.rights c.args.live.now c.requires.stands.live_there (take i held) next c.loop-place.known
-    (c.requires.listed next (item_stands held i none c.loop-place-test.true)) c.loop-place.invariant))
+    (c.requires.listed next (subst (λ (p : OwnPlace). stands held p ≡ true) (sym c.place-item.is) (item_stands held i next c.loop-place-test.true))) c.loop-place.invariant)))
 
 pub returns : goal.returns
 returns c =

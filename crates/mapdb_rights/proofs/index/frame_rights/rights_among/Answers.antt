@@ -2,9 +2,12 @@ use Rattle.std.proofs.Common.{◌<◌, sym, subst, arith}
 use Rattle.mapdb_fpage.specs.Bounds.{page_limit}
 use Rattle.mapdb_fpage.specs.declared.right_sets.Rights.{Rights}
 use Rattle.mapdb_facts.specs.Facts.{state_of_facts}
+use Rattle.mapdb_facts.specs.declared.names.RecordId.{RecordId}
+use Rattle.mapdb_lists.specs.Changes.{seen_in}
 use Rattle.mapdb_lists.specs.OwnPlaces.{own_list}
 use Rattle.mapdb_lists.specs.declared.places.Owner.TheVariants as owners
 use Rattle.mapdb_lists.proofs.PlaceLemmas.OwnersPlaces.{own_aligned}
+use Rattle.mapdb_rights.specs.First.{joined_as_far}
 use Rattle.mapdb_rights.proofs.Live.FrameRights.{RightsPassed, rights_all, rights_on}
 use Rattle.mapdb_rights.proofs.Live.PassedPlaces.{none_passed}
 use Rattle.mapdb_rights.proofs.index.frame_rights.rights_among.Goals as goal
@@ -26,8 +29,10 @@ places-preserved c =
     let own = c.args.own.now in
     let end = c.saturating_add-end.result in
     subst (λ (r : Rights). RightsPassed S changes c.args.space c.args.page c.args.shift own end c.in-Some.next.sweep r) (sym c.with_record-known.ensures)
+    (subst (λ (o : RecordId). RightsPassed S changes c.args.space c.args.page c.args.shift own end c.in-Some.next.sweep
+    (joined_as_far c.args.shift (seen_in changes o c.args.page) c.places.known)) (sym c.id.ensures)
     (rights_on S changes c.args.space c.args.page c.args.shift c.requires.stands.rights c.args.live.now c.requires.stands.live_there own end c.requires.places
-    c.places.sweep c.in-Some.next c.places.known c.in-Some.ensures c.places.invariant)
+    c.places.sweep c.in-Some.next c.places.known c.in-Some.ensures c.places.invariant))
 
 pub returns : goal.returns
 returns c =

@@ -10,6 +10,6 @@ pub returns-clause-shows : goal.returns-clause-shows
 returns-clause-shows c =
     let S : State = state_of_facts c.args.facts.now in
     let none : length c.stale.stack.items ≡ 0 = grind (arith, common_steps) in
-    shown S c.stale.changes c.args.listed.now c.stale.live c.requires.listed
+    shown S c.stale.changes c.args.listed.now c.stale.live c.requires.listed_there
     (λ id page. elim (c.stale.invariant.settled id page) [ inl settled ↦ inl settled | inr pending ↦ absurd (none_pending c.stale.stack.items id page none pending) ])
     c.stale.invariant.frames c.stale.invariant.live

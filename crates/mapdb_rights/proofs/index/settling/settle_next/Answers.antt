@@ -36,7 +36,7 @@ returns-in_default-clause-frames c id page some =
 
 pub returns-in_default-clause-live : goal.returns-in_default-clause-live
 returns-in_default-clause-live c =
-    subst (λ (cached : Cached). ListsLive (state_of_facts c.args.facts.now) cached c.args.live.now) (sym (still (kept c.in_default.is c.in_ok-replaced.ensures.how))) c.requires.live
+    subst (λ (cached : Cached). ListsLive (state_of_facts c.args.facts.now) cached c.args.live.now) (sym (still (kept c.in_default.is c.in_ok-replaced.ensures.how))) c.requires.live_there
 
 pub returns-in_default-clause-noted : goal.returns-in_default-clause-noted
 returns-in_default-clause-noted c =
@@ -87,7 +87,7 @@ follow_live-requires-clause-before c =
     let given = got c.in-Some.is c.in_ok-replaced.ensures.how in
     record {
       before = cached_in c.args.changes.now.own.entries;
-      listed = c.requires.live;
+      listed = c.requires.live_there;
       others = λ other page apart. given.cached other page
           ∙ cond-false (covers c.args.stale.id c.args.stale.first c.in_ok-replaced.replaced.end other page) _ _ (and_left _ _ apart);
       some = given.some;
@@ -118,14 +118,14 @@ returns-clause-settled c =
     c.requires.settled c.in_ok-keep_rest.ensures.pending c.in_ok-keep_rest.ensures.rest later
     (settled_after S old new c.args.stale.id c.args.stale.first end c.given_at-given.result.change.rights
     (λ q from before_end. c.given_at-given.ensures.follows.rights q from (let w = replaced.within in omega (arith, w)))
-    given.cached c.requires.listed.named c.requires.listed.formed c.push_children.new.stack.items
+    given.cached c.requires.listed_there.named c.requires.listed_there.formed c.push_children.new.stack.items
     (λ other r held parent page inside from before.
-    let named = c.requires.listed.named other r held in
+    let named = c.requires.listed_there.named other r held in
     let own : S.record_at r.id ≡ Some r = ap S.record_at named ∙ held in
-    elim (c.requires.listed.sources r own).by_parent [
+    elim (c.requires.listed_there.sources r own).by_parent [
       | inl revoked ↦ inl revoked
       | inr listed ↦ inr (subst (λ (o : RecordId). IsPending c.push_children.new.stack.items o page) named
-          (pushed r own (c.requires.listed.formed r own) listed parent page inside from before))
+          (pushed r own (c.requires.listed_there.formed r own) listed parent page inside from before))
     ])))
     c.push_children.ensures.stale c.push_children.ensures.kept
 
