@@ -56,6 +56,13 @@ impl<V: Drop> ByName<V> {
         }
     }
 
+    /// Expects so many names: the value of one with a great number is found as fast then.
+    pub fn expect(&mut self, names: usize)
+        ensures { self.new ≡ self.old }
+    {
+        self.places.expect(names);
+    }
+
     /// Gives a value to a name that has none. An error where memory ran out, and then each name has
     /// the value that it had.
     #[inline(always)]
@@ -65,7 +72,7 @@ impl<V: Drop> ByName<V> {
         ensures err { OnErr result (HasSameValues self.old self.new) }
     {
         self.values.reserve(1)?;
-        self.places.put(id, self.values.len(), 0)?;
+        self.places.put(id, self.values.len())?;
         self.values.push_reserved(value);
         Ok(())
     }

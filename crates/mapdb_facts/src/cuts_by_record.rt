@@ -66,7 +66,7 @@ fn merge_under(cuts: &mut ListedByName<Runs>, id: RecordId, theirs: &Runs) -> Re
         return cuts.values[at].merge(theirs).map_err(MergeFault::refusal);
     }
     let copy = theirs.copy()?;
-    cuts.insert(id, copy, 0)
+    cuts.insert(id, copy)
 }
 
 /// Takes what the other takes. An error where memory ran out, and then some of it is taken.
@@ -84,14 +84,13 @@ fn merge_all(cuts: &mut ListedByName<Runs>, other: &ListedByName<Runs>) -> Resul
     Ok(())
 }
 
-/// Takes bits of the pages of a region from the record of a name, where so many records are held.
-/// An error where memory ran out, and then nothing has changed.
+/// Takes bits of the pages of a region from the record of a name. An error where memory ran out,
+/// and then nothing has changed.
 fn merge_region(
     cuts: &mut ListedByName<Runs>,
     alloc: Global,
     id: RecordId,
     region: Region,
-    records: usize,
 ) -> Result<(), AllocError>
     ensures ok { OnOk result (IsUnion has_cut cuts.old.entries ((id, starts_of region) ∷ [])
         cuts.new.entries) }
@@ -103,7 +102,7 @@ fn merge_region(
             .map_err(MergeFault::refusal);
     }
     let runs = Runs::of_part(alloc, region)?;
-    cuts.insert(id, runs, records)
+    cuts.insert(id, runs)
 }
 
 impl CutsByRecord {
@@ -125,19 +124,22 @@ impl CutsByRecord {
         self.by_name.get(id)
     }
 
-    /// Takes bits of the pages of a region from the record of a name, where so many records are
-    /// held. An error where memory ran out, and then nothing has changed.
-    pub(crate) fn add(
-        &mut self,
-        id: RecordId,
-        region: Region,
-        records: usize,
-    ) -> Result<(), AllocError>
+    /// Expects so many records, of which few may have something taken: what is taken from one with
+    /// a great number is found as fast then.
+    pub(crate) fn expect(&mut self, records: usize)
+        ensures { self.new ≡ self.old }
+    {
+        self.by_name.expect(records);
+    }
+
+    /// Takes bits of the pages of a region from the record of a name. An error where memory ran
+    /// out, and then nothing has changed.
+    pub(crate) fn add(&mut self, id: RecordId, region: Region) -> Result<(), AllocError>
         ensures ok { OnOk result (IsUnion has_cut self.old ((id, starts_of region) ∷ [])
             self.new) }
         ensures err { OnErr result (self.new ≡ self.old) }
     {
-        merge_region(&mut self.by_name, self.alloc, id, region, records)
+        merge_region(&mut self.by_name, self.alloc, id, region)
     }
 
     /// Whether these take all that the other takes.

@@ -6,7 +6,7 @@ pub const NUMBER_LIMIT: u64 = 1 << 40;
 /// The numbers of processors lie below this.
 pub const PROCESSOR_LIMIT: u8 = 64;
 
-/// How far beyond twice the names that came before it, or that there are elsewhere, the number of
-/// a near name may lie. It is this great since operations may come in any order, and each list of
-/// near names may be as long.
+/// How far beyond twice the names that came before it, or that are expected, the number of a near
+/// name may lie. It is this great since operations may come in any order, and each list of near
+/// names may be as long.
 pub(crate) const NEAR_NUMBERS: u64 = 16_384;

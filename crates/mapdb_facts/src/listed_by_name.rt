@@ -54,23 +54,25 @@ impl<V: Drop> ListedByName<V> {
         }
     }
 
-    /// Gives a value to a name that has none, behind the others, where there are so many names
-    /// elsewhere, as of records, of which few have a value here: a name with a great number is
-    /// found as fast then. An error where memory ran out, and then nothing has changed.
+    /// Expects so many names, as of records, of which few may have a value here: one with a great
+    /// number is found as fast then.
+    pub(crate) fn expect(&mut self, names: usize)
+        ensures { self.new ≡ self.old }
+    {
+        self.names.expect(names);
+    }
+
+    /// Gives a value to a name that has none, behind the others. An error where memory ran out, and
+    /// then nothing has changed.
     #[inline(always)]
-    pub(crate) fn insert(
-        &mut self,
-        id: RecordId,
-        value: V,
-        elsewhere: usize,
-    ) -> Result<(), AllocError>
+    pub(crate) fn insert(&mut self, id: RecordId, value: V) -> Result<(), AllocError>
         requires { lookup (same_id id) self.old.entries ≡ None }
         ensures ok { OnOk result (IsInserted self.old id value self.new) }
         ensures names { OnOk result (names_of self.new ≡ with_name (names_of self.old) id) }
         ensures err { OnErr result (self.new.entries ≡ self.old.entries) }
     {
         self.values.reserve(1)?;
-        self.names.add(id, elsewhere)?;
+        self.names.add(id)?;
         self.values.push_reserved(value);
         Ok(())
     }

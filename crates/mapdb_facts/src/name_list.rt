@@ -53,17 +53,22 @@ impl NameList {
         self.places.get(id)
     }
 
-    /// Adds a name at the end, where there are so many names elsewhere: where these are many, one
-    /// with a great number is found as fast. An error where memory ran out, and then nothing has
-    /// changed.
+    /// Expects so many names: one with a great number is found as fast then.
+    pub(crate) fn expect(&mut self, names: usize)
+        ensures { self.new ≡ self.old }
+    {
+        self.places.expect(names);
+    }
+
+    /// Adds a name at the end. An error where memory ran out, and then nothing has changed.
     #[inline(always)]
-    pub(crate) fn add(&mut self, id: RecordId, elsewhere: usize) -> Result<(), AllocError>
+    pub(crate) fn add(&mut self, id: RecordId) -> Result<(), AllocError>
         requires { place_of id self.old ≡ None }
         ensures ok { OnOk result (self.new ≡ self.old ++ id ∷ []) }
         ensures err { OnErr result (self.new ≡ self.old) }
     {
         self.names.reserve(1)?;
-        self.places.put(id, self.names.len(), elsewhere)?;
+        self.places.put(id, self.names.len())?;
         self.names.push_reserved(id);
         Ok(())
     }

@@ -18,6 +18,8 @@ use std::collections::BTreeMap;
 pub struct NamePlaces {
     pub(crate) near: Vec<Vec<u32>>,
     pub(crate) far: BTreeMap<RecordId, usize>,
+    /// How many names are known to come here, or to be elsewhere.
+    expected: usize,
     alloc: Global,
 }
 
@@ -35,16 +37,16 @@ pub(crate) fn near_word(near: &[Vec<u32>], id: RecordId) -> u32
 }
 
 /// The word for a name at a place, where the name is near: its number lies not far beyond twice the
-/// names that came before it, or that there are elsewhere. So the list of each processor has at
-/// most [`NEAR_NUMBERS`] words more than twice these names.
+/// names that came before it, or that are expected. So the list of each processor has at most
+/// [`NEAR_NUMBERS`] words more than twice these names.
 #[inline(always)]
-fn word_for(id: RecordId, at: usize, elsewhere: usize) -> Option<u32>
+fn word_for(id: RecordId, at: usize, expected: usize) -> Option<u32>
     ensures word { IfSome result (λ word. word ≡ at + 1) }
     ensures number { IfSome result (λ _. id.number + 1 < 2 ^ 64) }
     ensures processor { IfSome result (λ _. id.processor < processor_limit) }
-    ensures near { IfSome result (λ _. id.number < 2 * (max at elsewhere) + NEAR_NUMBERS) }
+    ensures near { IfSome result (λ _. id.number < 2 * (max at expected) + NEAR_NUMBERS) }
 {
-    let names = at.max(elsewhere) as u64;
+    let names = at.max(expected) as u64;
     let limit = names.saturating_mul(2).saturating_add(NEAR_NUMBERS);
     if id.processor < PROCESSOR_LIMIT && id.number < limit && at < u32::MAX as usize {
         return Some(at as u32 + 1);
@@ -128,6 +130,7 @@ impl NamePlaces {
         NamePlaces {
             near: Vec::new(alloc),
             far: BTreeMap::new(alloc),
+            expected: 0,
             alloc,
         }
     }
@@ -147,22 +150,24 @@ impl NamePlaces {
         self.far.get(&id).copied()
     }
 
-    /// Gives a place to a name that has none, where there are so many names elsewhere. An error
-    /// where memory ran out.
+    /// Expects so many names, or as many as it did: names that come from now on are near where they
+    /// would be behind so many.
+    pub(crate) fn expect(&mut self, names: usize)
+        ensures { self.new ≡ record self.old { expected = max self.old.expected names } }
+    {
+        self.expected = self.expected.max(names);
+    }
+
+    /// Gives a place to a name that has none. An error where memory ran out.
     #[inline(always)]
-    pub(crate) fn put(
-        &mut self,
-        id: RecordId,
-        at: usize,
-        elsewhere: usize,
-    ) -> Result<(), AllocError>
+    pub(crate) fn put(&mut self, id: RecordId, at: usize) -> Result<(), AllocError>
         requires { place_in self.old id ≡ None }
         ensures few { HaveFewLists self.old.near.items → HaveFewLists self.new.near.items }
         ensures ok { OnOk result ((q : RecordId) → place_in self.new q
             ≡ (if same_id id q then Some at else place_in self.old q)) }
         ensures err { OnErr result ((q : RecordId) → place_in self.new q ≡ place_in self.old q) }
     {
-        if let Some(word) = word_for(id, at, elsewhere) {
+        if let Some(word) = word_for(id, at, self.expected) {
             return put_near(&mut self.near, self.alloc, id, word);
         }
         self.far.insert(id, at)?;

@@ -90,6 +90,13 @@ impl RecordList {
         self.places.next(after)
     }
 
+    /// Expects so many records: one with a great number is found as fast then.
+    pub(crate) fn expect(&mut self, records: usize)
+        ensures { self.new ≡ self.old }
+    {
+        self.places.expect(records);
+    }
+
     /// Adds a record of a name that has none, behind the others. An error where memory ran out, and
     /// then nothing has changed.
     #[inline(always)]
@@ -99,7 +106,7 @@ impl RecordList {
         ensures err { OnErr result (self.new.entries ≡ self.old.entries) }
     {
         self.records.reserve(1)?;
-        self.places.put(mapping.id, self.records.len(), 0)?;
+        self.places.put(mapping.id, self.records.len())?;
         self.records.push_reserved(mapping);
         Ok(())
     }

@@ -122,6 +122,13 @@ impl RecordsByName {
         self.greatest
     }
 
+    /// Expects so many records: one with a great number is found as fast then.
+    pub(crate) fn expect(&mut self, records: usize)
+        ensures { self.new ≡ self.old }
+    {
+        self.list.expect(records);
+    }
+
     /// Holds a record of a name that has none, or this very record. An error where memory ran out,
     /// and then nothing has changed.
     pub(crate) fn add(&mut self, mapping: Record) -> Result<(), AllocError>
