@@ -121,6 +121,13 @@ impl AllChanges {
             alloc,
         }
     }
+
+    /// Expects so many records: the changes of one with a great number are found as fast then.
+    pub fn expect(&mut self, records: usize)
+        ensures { self.new ≡ self.old }
+    {
+        self.own.expect(records);
+    }
 }
 
 /// The last change of a record up to a page, and where it stands.

@@ -110,6 +110,14 @@ impl OwnersPlaces {
         }
     }
 
+    /// Expects so many records, of which few may have places: those of one with a great number are
+    /// found as fast then.
+    pub(crate) fn expect(&mut self, records: usize)
+        ensures { self.new ≡ self.old }
+    {
+        self.records.expect(records);
+    }
+
     /// Puts a place among those of an owner. An error where memory ran out.
     #[inline(always)]
     pub(crate) fn put(&mut self, owner: Owner, place: OwnPlace) -> Result<(), AllocError>

@@ -90,6 +90,14 @@ impl Places {
         }
     }
 
+    /// Expects so many records, of which few may own places: those of one with a great number are
+    /// found as fast then.
+    pub fn expect(&mut self, records: usize)
+        ensures { self.new ≡ self.old }
+    {
+        self.own.expect(records);
+    }
+
     /// Lists one entry more. An error where memory ran out.
     #[inline(always)]
     pub fn insert(&mut self, entry: Listed) -> Result<(), AllocError>
