@@ -86,6 +86,15 @@ impl RightsIndex {
         self.absent
     }
 
+    /// Expects so many records: what is kept of one with a great number is found as fast then. It
+    /// is a matter of speed alone. The places of those with a right are by space.
+    pub fn expect(&mut self, records: usize)
+        ensures { self.new ≡ self.old }
+    {
+        self.changes.expect(records);
+        self.listed.expect(records);
+    }
+
     /// Follows an operation.
     fn follow(&mut self, facts: &Facts, op: &Op) -> Result<(), AllocError>
         requires formed { is_formed op.now ≡ true }
