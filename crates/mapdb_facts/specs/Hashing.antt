@@ -1,7 +1,8 @@
 -- What names, spaces and operations feed a hasher: few words, which tell most of them apart.
-use Rattle.std.specs.Prelude.{◌≡◌, ℕ, true, ◌+◌, ◌*◌, ◌%◌, ◌^◌, ◌++◌}
+use Rattle.std.specs.Prelude.{◌≡◌, ℕ, true, Some, ◌+◌, ◌*◌, ◌%◌, ◌^◌, ◌++◌}
 use Rattle.std.specs.Hash.{HashWrites, u64}
 use Rattle.std.proofs.Common.{ap}
+use Rattle.mapdb_fpage.specs.Words.{word_of}
 use Rattle.mapdb_facts.specs.declared.names.RecordId.{RecordId}
 use Rattle.mapdb_facts.specs.declared.names.Space.{Space}
 use Rattle.mapdb_facts.specs.declared.operations.Op.{Op}
@@ -24,10 +25,11 @@ id_writes id = u64 (id_word id)
 abbrev pub space_writes : Space → HashWrites
 space_writes space = u64 (space_word space)
 
--- what names an operation: the rest of it is seldom all that two differ in
+-- the name of a record or of a space that ends: the rest is seldom all that two differ in; and all
+-- of a revocation: its part and its rights are one word
 abbrev pub op_writes : Op → HashWrites
 op_writes (Born r) = id_writes r.id
-op_writes (Cut cut) = id_writes cut.target ++ u64 cut.part.first_page
+op_writes (Cut cut) = u64 (word_of (Some cut.part) cut.rights) ++ id_writes cut.target
 op_writes (Closed space) = space_writes space
 
 -- what compares equal feeds alike
