@@ -22,7 +22,7 @@ use clap::Error;
 use clap::error::ErrorKind;
 use mapdb_exchange::RunFault;
 use mapdb_picture::LoadFault;
-use mapdb_script::{ScriptFault, Sink, Source, Summary, run};
+use mapdb_script::{ScriptFault, Sink, Source, Summary, run_to_exit};
 use std::alloc::Global;
 use std::convert::AsStr;
 use std::io;
@@ -128,7 +128,7 @@ fn serve_script<R: Source, W: Sink, E: Sink>(
     ensures once { R.has_failed reader.new ≡ true
         → R.has_ended reader.new ≡ R.has_ended reader.old }
 {
-    let outcome = run(alloc, reader, writer);
+    let outcome = run_to_exit(alloc, reader, writer);
     tell(errors, message(&outcome));
     ending_of(&outcome)
 }
