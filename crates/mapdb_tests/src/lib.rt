@@ -21,4 +21,6 @@ mod joins;
 #[cfg(test)]
 mod orders;
 #[cfg(test)]
+mod scripts;
+#[cfg(test)]
 mod tables;
