@@ -6,7 +6,6 @@ pub mod ByOwners
 pub mod PlaceLists
 pub mod PlaceNames
 pub mod PlaceOrder
-pub mod PlaceNumbers
 pub mod SpacePlaces
 pub mod OwnSweeps
 pub mod LessPlaces

@@ -2,7 +2,7 @@
 use Rattle.std.specs.Prelude.{◌≡◌, ℕ, ◌<◌, List, length, get_or}
 use Rattle.std.specs.declared.cmp.Ordering.TheVariants.{Less}
 use Rattle.mapdb_lists.specs.Standing.{place_cmp}
-use Rattle.mapdb_lists.specs.declared.own_places.OwnPlace.{OwnPlace}
+use Rattle.mapdb_lists.specs.declared.own_place.OwnPlace.{OwnPlace}
 use Rattle.mapdb_lists.specs.declared.sorted_places.KeptPlaces.{KeptPlaces}
 use Rattle.mapdb_lists.specs.declared.sorted_places.KeptPlaces.TheVariants.{Listed, Tree}
 

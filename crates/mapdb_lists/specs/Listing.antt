@@ -9,7 +9,7 @@ use Rattle.std.specs.declared.cmp.Ordering.{Ordering}
 use Rattle.std.specs.declared.cmp.Ordering.TheVariants.{Greater, Less}
 use Rattle.std.specs.declared.ops.Bound.{Bound}
 use Rattle.mapdb_facts.specs.Kept.{id_cmp, space_cmp}
-use Rattle.mapdb_lists.specs.declared.own_places.OwnPlace.{OwnPlace}
+use Rattle.mapdb_lists.specs.declared.own_place.OwnPlace.{OwnPlace}
 use Rattle.mapdb_lists.specs.declared.own_places.OwnPlaces.{OwnPlaces}
 use Rattle.mapdb_lists.specs.declared.places.Listed.{Listed}
 use Rattle.mapdb_lists.specs.declared.places.Owner.{Owner}

@@ -11,7 +11,7 @@ use Rattle.mapdb_facts.specs.declared.names.RecordId.{RecordId}
 pub use Rattle.mapdb_lists.specs.Standing.{place_cmp, stands}
 use Rattle.mapdb_lists.specs.declared.own_places.FoundPlace.{FoundPlace}
 use Rattle.mapdb_lists.specs.declared.own_places.NextPlace.{NextPlace}
-use Rattle.mapdb_lists.specs.declared.own_places.OwnPlace.{OwnPlace}
+use Rattle.mapdb_lists.specs.declared.own_place.OwnPlace.{OwnPlace}
 use Rattle.mapdb_lists.specs.declared.own_places.OwnPlaces.{OwnPlaces}
 use Rattle.mapdb_lists.specs.declared.own_places.OwnPlaces.TheVariants.{Few, Many, One}
 use Rattle.mapdb_lists.specs.declared.own_places.Sweep.{Sweep}

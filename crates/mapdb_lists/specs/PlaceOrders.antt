@@ -15,7 +15,7 @@ use Rattle.mapdb_facts.specs.Exact.{exact_id}
 use Rattle.mapdb_facts.specs.Kept.{id_cmp}
 use Rattle.mapdb_facts.specs.Names.{same_id}
 use Rattle.mapdb_lists.specs.Standing.{place_cmp}
-use Rattle.mapdb_lists.specs.declared.own_places.OwnPlace.{OwnPlace}
+use Rattle.mapdb_lists.specs.declared.own_place.OwnPlace.{OwnPlace}
 
 -- both have one order, one first page and one name
 abbrev pub same_own : OwnPlace → OwnPlace → Bool

@@ -11,7 +11,7 @@ use Rattle.mapdb_facts.specs.Kept.{id_cmp}
 use Rattle.mapdb_facts.specs.declared.names.RecordId.{RecordId}
 use Rattle.mapdb_lists.specs.declared.orders.Orders.{Orders}
 use Rattle.mapdb_lists.specs.declared.limits.TheConstants.{ORDER_LIMIT}
-use Rattle.mapdb_lists.specs.declared.own_places.OwnPlace.{OwnPlace}
+use Rattle.mapdb_lists.specs.declared.own_place.OwnPlace.{OwnPlace}
 
 -- by the order, the first page and the record's name
 abbrev pub place_cmp : OwnPlace → OwnPlace → Ordering

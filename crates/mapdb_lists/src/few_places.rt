@@ -7,9 +7,10 @@ ghost use Rattle.mapdb_lists.specs.OwnPlaces.{AreAligned, IsAlignedPlace, IsFirs
 ghost use Rattle.mapdb_lists.specs.OwnPlaces.{IsNextPlace, IsSweptOn, few_ahead, is_beyond};
 ghost use Rattle.mapdb_lists.specs.OwnPlaces.{is_next, lesser_place, lesser_where, own_meets};
 ghost use Rattle.mapdb_lists.specs.OwnPlaces.{place_cmp, stands};
-ghost use Rattle.mapdb_lists.specs.declared.own_places.OwnPlace.{OwnPlace};
+ghost use Rattle.mapdb_lists.specs.declared.own_place.OwnPlace.{OwnPlace};
 
-use crate::own_places::{NextPlace, OwnPlace, Sweep};
+use crate::own_place::OwnPlace;
+use crate::own_places::{NextPlace, Sweep};
 use std::ops::Bound;
 
 /// The lesser of two places, where there is another.

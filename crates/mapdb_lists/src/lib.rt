@@ -28,6 +28,7 @@ mod many_changes;
 mod many_places;
 mod orders;
 mod own_changes;
+mod own_place;
 mod own_places;
 mod owners_places;
 mod place_lists;
@@ -43,6 +44,7 @@ pub use changes::{
     stretch_at, unchanged_until,
 };
 pub use limits::FIRST_LIMIT;
-pub use own_places::{NextPlace, OwnPlace, OwnPlaces, Sweep};
+pub use own_place::OwnPlace;
+pub use own_places::{NextPlace, OwnPlaces, Sweep};
 pub use places::{Listed, Owner, Places};
 pub use short_lists::add_item;

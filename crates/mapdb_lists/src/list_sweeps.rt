@@ -10,7 +10,8 @@ ghost use Rattle.mapdb_lists.specs.Standing.{HaveOrders};
 
 use crate::limits::FIRST_LIMIT;
 use crate::orders::Orders;
-use crate::own_places::{FoundPlace, OwnPlace};
+use crate::own_place::OwnPlace;
+use crate::own_places::FoundPlace;
 use crate::place_lists::{index_above, index_from};
 use crate::place_sets::start_of;
 use mapdb_fpage::{LEAST_ORDER, TOP_ORDER};

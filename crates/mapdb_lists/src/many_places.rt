@@ -5,7 +5,8 @@ ghost use Rattle.mapdb_lists.specs.Standing.{HaveOrders};
 use crate::limits::FIRST_LIMIT;
 use crate::list_sweeps::list_next;
 use crate::orders::Orders;
-use crate::own_places::{FoundPlace, OwnPlace};
+use crate::own_place::OwnPlace;
+use crate::own_places::FoundPlace;
 use crate::place_sets::{Spot, start_of};
 use crate::sorted_places::SortedPlaces;
 use mapdb_facts::RecordId;
@@ -33,7 +34,7 @@ impl ManyPlaces {
     ghost use Rattle.mapdb_lists.specs.OwnPlaces.{IsNextPlace, found_place, orders_ahead, own_meets};
     ghost use Rattle.mapdb_lists.specs.OwnPlaces.{place_cmp, spot_place, stands};
     ghost use Rattle.mapdb_lists.specs.Standing.{is_named};
-    ghost use Rattle.mapdb_lists.specs.declared.own_places.OwnPlace.{OwnPlace};
+    ghost use Rattle.mapdb_lists.specs.declared.own_place.OwnPlace.{OwnPlace};
 
     /// No places. It takes no memory.
     pub(crate) fn new(alloc: Global) -> ManyPlaces

@@ -11,7 +11,8 @@ ghost use Rattle.mapdb_lists.specs.Owners.{same_owner};
 ghost use Rattle.mapdb_lists.specs.declared.places.Owner.{Owner};
 
 use crate::by_space::BySpace;
-use crate::own_places::{OwnPlace, OwnPlaces};
+use crate::own_place::OwnPlace;
+use crate::own_places::OwnPlaces;
 use crate::places::Owner;
 use mapdb_facts::{ByName, RecordId, Space};
 use std::alloc::{AllocError, Global};

@@ -10,9 +10,9 @@ ghost use Rattle.std.specs.declared.ops.Bound.TheVariants.{Excluded, Included};
 ghost use Rattle.mapdb_lists.specs.Ascending.{Ascend, IsAtIndex};
 ghost use Rattle.mapdb_lists.specs.OwnPlaces.{IsBehind, IsFirstPlaceWhere, place_cmp, spot_place};
 ghost use Rattle.mapdb_lists.specs.OwnPlaces.{stands};
-ghost use Rattle.mapdb_lists.specs.declared.own_places.OwnPlace.{OwnPlace};
+ghost use Rattle.mapdb_lists.specs.declared.own_place.OwnPlace.{OwnPlace};
 
-use crate::own_places::OwnPlace;
+use crate::own_place::OwnPlace;
 use crate::place_sets::Spot;
 use std::alloc::AllocError;
 

@@ -8,9 +8,9 @@ ghost use Rattle.mapdb_lists.specs.Ascending.{Ascend};
 ghost use Rattle.mapdb_lists.specs.OwnPlaces.{AreAligned, IsNameFrom, IsNameMeeting, own_meets};
 ghost use Rattle.mapdb_lists.specs.OwnPlaces.{place_cmp, stands};
 ghost use Rattle.mapdb_lists.specs.Standing.{is_named};
-ghost use Rattle.mapdb_lists.specs.declared.own_places.OwnPlace.{OwnPlace};
+ghost use Rattle.mapdb_lists.specs.declared.own_place.OwnPlace.{OwnPlace};
 
-use crate::own_places::OwnPlace;
+use crate::own_place::OwnPlace;
 use crate::place_lists::index_for;
 use crate::short_lists::add_item;
 use mapdb_facts::RecordId;

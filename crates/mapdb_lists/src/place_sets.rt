@@ -7,7 +7,7 @@ ghost use Rattle.mapdb_lists.specs.OwnPlaces.{IsBehind, IsFirstPlaceWhere, place
 ghost use Rattle.mapdb_lists.specs.OwnPlaces.{start};
 
 use crate::limits::FIRST_LIMIT;
-use crate::own_places::OwnPlace;
+use crate::own_place::OwnPlace;
 use mapdb_facts::RecordId;
 use mapdb_fpage::{LEAST_ORDER, TOP_ORDER, pages_of_order};
 use std::collections::BTreeSet;

@@ -11,7 +11,8 @@ ghost use Rattle.mapdb_lists.specs.Listing.{owner_places};
 ghost use Rattle.mapdb_lists.specs.declared.places.Listed.{Listed};
 
 use crate::limits::FIRST_LIMIT;
-use crate::own_places::{OwnPlace, OwnPlaces};
+use crate::own_place::OwnPlace;
+use crate::own_places::OwnPlaces;
 use crate::owners_places::OwnersPlaces;
 use mapdb_facts::{RecordId, Space};
 use std::alloc::{AllocError, Global};

@@ -4,10 +4,10 @@ ghost use Rattle.std.specs.Prelude.{◌≡◌, ◌&&◌, ◌||◌, IfOk, IfSome,
 ghost use Rattle.std.specs.BTreeMap.{is_at};
 ghost use Rattle.mapdb_lists.specs.Ascending.{IsInOrder, kept_places};
 ghost use Rattle.mapdb_lists.specs.OwnPlaces.{place_cmp, stands};
-ghost use Rattle.mapdb_lists.specs.declared.own_places.OwnPlace.{OwnPlace};
+ghost use Rattle.mapdb_lists.specs.declared.own_place.OwnPlace.{OwnPlace};
 
 use crate::limits::SOME_PLACES;
-use crate::own_places::OwnPlace;
+use crate::own_place::OwnPlace;
 use crate::place_lists::{list_above, list_from, list_put, list_remove};
 use crate::place_names::{list_names, tree_names};
 use crate::place_sets::{Spot, set_above, set_from};
@@ -121,7 +121,7 @@ pub struct SortedPlaces {
 impl Model for SortedPlaces {
     ghost use Rattle.std.specs.Prelude.{List};
     ghost use Rattle.mapdb_lists.specs.Ascending.{IsInOrder, kept_places};
-    ghost use Rattle.mapdb_lists.specs.declared.own_places.OwnPlace.{OwnPlace};
+    ghost use Rattle.mapdb_lists.specs.declared.own_place.OwnPlace.{OwnPlace};
 
     ghost Value = { List OwnPlace };
 
@@ -142,7 +142,7 @@ impl SortedPlaces {
     ghost use Rattle.mapdb_lists.specs.OwnPlaces.{place_cmp};
     ghost use Rattle.mapdb_lists.specs.OwnPlaces.{spot_place, stands};
     ghost use Rattle.mapdb_lists.specs.Standing.{is_named};
-    ghost use Rattle.mapdb_lists.specs.declared.own_places.OwnPlace.{OwnPlace};
+    ghost use Rattle.mapdb_lists.specs.declared.own_place.OwnPlace.{OwnPlace};
 
     /// No places. It takes no memory.
     pub(crate) fn new(alloc: Global) -> SortedPlaces

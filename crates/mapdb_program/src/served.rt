@@ -199,6 +199,7 @@ fn serve_snapshot<R: Source, W: Sink, E: Sink>(
 /// is none; refused where clap refuses the words or they call for help; or because the reader or
 /// the writer failed, or memory ran out. The errors are told why, but of a faulty line; that they
 /// fail changes nothing. A reader that has ended is not asked again. It waits only for `threads`.
+/// For `run`, what the script's copies hold is left to the end of the process.
 pub fn serve<T: AllocGlobal + Threads + Wait + Sync, S: AsStr, R: Source, W: Sink, E: Sink>(
     rt: &T,
     words: &[S],

@@ -6,7 +6,7 @@ use Rattle.std.specs.Map.{lookup}
 use Rattle.mapdb_facts.specs.Names.{same_id, same_space}
 use Rattle.mapdb_facts.specs.declared.names.RecordId.{RecordId}
 use Rattle.mapdb_facts.specs.declared.names.Space as names
-use Rattle.mapdb_lists.specs.declared.own_places.OwnPlace.{OwnPlace}
+use Rattle.mapdb_lists.specs.declared.own_place.OwnPlace.{OwnPlace}
 use Rattle.mapdb_lists.specs.declared.own_places.OwnPlaces.{OwnPlaces}
 use Rattle.mapdb_lists.specs.declared.places.Owner.{Owner}
 use Rattle.mapdb_lists.specs.declared.places.Owner.TheVariants.{Record, Space}

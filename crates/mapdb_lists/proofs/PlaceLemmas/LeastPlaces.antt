@@ -16,7 +16,7 @@ use Rattle.std.proofs.lemmas.List.{take_more}
 use Rattle.std.proofs.lemmas.List.Folds.{list_any_at}
 use Rattle.std.proofs.lemmas.List.Kept.{IsStrictlySortedBy-filter}
 use Rattle.std.proofs.lemmas.Map.Views.{any-filter_same}
-use Rattle.mapdb_lists.specs.declared.own_places.OwnPlace.{OwnPlace}
+use Rattle.mapdb_lists.specs.declared.own_place.OwnPlace.{OwnPlace}
 use Rattle.mapdb_lists.specs.OwnPlaces.{IsFirstPlaceWhere, IsLeastPlace, is_beyond, lesser_place, lesser_where, place_cmp, stands}
 use Rattle.mapdb_lists.proofs.Lists.ListedOrder.{less_from}
 use Rattle.mapdb_lists.proofs.PlaceLemmas.PlaceOrder.{at_back, exact_place, le_as, le_is, le_itself, le_on, lt_le, not_before, place_itself, place_total}

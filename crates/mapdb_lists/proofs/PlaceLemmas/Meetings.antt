@@ -7,7 +7,7 @@ use Rattle.std.specs.declared.ops.Bound.TheVariants.{Included}
 use Rattle.std.proofs.lemmas.Bool.{cases_Bool, false_from_ne_true, ltb-true, ltb-false, true≢false}
 use Rattle.std.proofs.lemmas.Nat.{pow_pos}
 use Rattle.std.proofs.Math.Pow.{pow_mono}
-use Rattle.mapdb_lists.specs.declared.own_places.OwnPlace.{OwnPlace}
+use Rattle.mapdb_lists.specs.declared.own_place.OwnPlace.{OwnPlace}
 use Rattle.mapdb_lists.specs.OwnPlaces.{AreAligned, HasReached, HasReachedFrom, IsAlignedPlace, IsFirstPlaceWhere, IsNextPlace, IsReachedAbove, is_beyond, orders_ahead, own_meets, own_pages, place_cmp, stands, start}
 use Rattle.mapdb_lists.specs.PlaceKeys.{first_limit}
 use Rattle.mapdb_lists.specs.Standing.{HaveOrders, IsLeastOrder, IsNextOrder, has_order}

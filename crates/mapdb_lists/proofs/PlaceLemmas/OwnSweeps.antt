@@ -8,7 +8,7 @@ use Rattle.std.proofs.lemmas.Cmp.{tied_itself}
 use Rattle.std.proofs.lemmas.Map.Views.{any-filter_same}
 use Rattle.std.proofs.lemmas.Option.{none-some, same_Some}
 use Rattle.mapdb_lists.specs.declared.own_places.FoundPlace.{FoundPlace}
-use Rattle.mapdb_lists.specs.declared.own_places.OwnPlace.{OwnPlace}
+use Rattle.mapdb_lists.specs.declared.own_place.OwnPlace.{OwnPlace}
 use Rattle.mapdb_lists.specs.declared.own_places.OwnPlaces.{OwnPlaces}
 use Rattle.mapdb_lists.specs.declared.own_places.OwnPlaces.TheVariants.{Few, Many, One}
 use Rattle.mapdb_lists.specs.declared.own_places.Sweep.{Sweep}

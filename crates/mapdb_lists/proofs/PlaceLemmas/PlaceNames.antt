@@ -16,7 +16,7 @@ use Rattle.mapdb_facts.specs.Names.{same_id}
 use Rattle.mapdb_facts.specs.declared.names.RecordId.{RecordId}
 use Rattle.mapdb_facts.proofs.Lists.Comparing.{exact_ids, id_at}
 use Rattle.mapdb_facts.proofs.Lists.SameNames.{same_id_itself}
-use Rattle.mapdb_lists.specs.declared.own_places.OwnPlace.{OwnPlace}
+use Rattle.mapdb_lists.specs.declared.own_place.OwnPlace.{OwnPlace}
 use Rattle.mapdb_fpage.specs.Bounds.{top_order}
 use Rattle.mapdb_lists.specs.Ascending.{Ascend, IsAtIndex}
 use Rattle.mapdb_lists.specs.OwnPlaces.{AreAligned, IsAlignedPlace, own_meets, own_pages, place_cmp, stands, start}

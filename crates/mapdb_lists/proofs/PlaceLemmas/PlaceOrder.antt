@@ -10,7 +10,7 @@ use Rattle.std.proofs.lemmas.Cmp.{tied_itself}
 use Rattle.mapdb_facts.proofs.Lists.Comparing.{from_below}
 use Rattle.mapdb_facts.specs.Kept.{id_cmp}
 use Rattle.mapdb_facts.specs.Names.{root}
-use Rattle.mapdb_lists.specs.declared.own_places.OwnPlace.{OwnPlace}
+use Rattle.mapdb_lists.specs.declared.own_place.OwnPlace.{OwnPlace}
 pub use Rattle.mapdb_lists.specs.PlaceOrders.{exact_place, place_at, place_total, same_own}
 use Rattle.mapdb_lists.specs.OwnPlaces.{place_cmp, start}
 use Rattle.mapdb_lists.proofs.Lists.ListedOrder.{from_equal, less_from, root_first, three_ways, up_to}

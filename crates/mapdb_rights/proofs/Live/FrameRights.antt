@@ -17,7 +17,7 @@ use Rattle.mapdb_lists.specs.Listing.{owner_places}
 use Rattle.mapdb_lists.specs.OwnPlaces.{IsSweptOn, IsSweptTo, ahead, own_list, stands}
 use Rattle.mapdb_lists.specs.declared.changes.Change.{Change}
 use Rattle.mapdb_lists.specs.declared.own_places.NextPlace.{NextPlace}
-use Rattle.mapdb_lists.specs.declared.own_places.OwnPlace.{OwnPlace}
+use Rattle.mapdb_lists.specs.declared.own_place.OwnPlace.{OwnPlace}
 use Rattle.mapdb_lists.specs.declared.own_places.OwnPlaces.{OwnPlaces}
 use Rattle.mapdb_lists.specs.declared.own_places.Sweep.{Sweep}
 use Rattle.mapdb_lists.specs.declared.places.Owner.TheVariants as owners

@@ -10,7 +10,7 @@ use Rattle.mapdb_facts.specs.declared.names.Space.{Space}
 use Rattle.mapdb_lists.specs.Changes.{PageChanges, cached_in, seen_in}
 use Rattle.mapdb_lists.specs.Listing.{is_listed, listed_for}
 use Rattle.mapdb_lists.specs.OwnPlaces.{stands}
-use Rattle.mapdb_lists.specs.declared.own_places.OwnPlace.{OwnPlace}
+use Rattle.mapdb_lists.specs.declared.own_place.OwnPlace.{OwnPlace}
 use Rattle.mapdb_lists.specs.declared.places.Owner.TheVariants as owners
 use Rattle.mapdb_lists.specs.declared.places.Places.{Places}
 use Rattle.mapdb_rights.specs.Among.{is_shown}

@@ -7,7 +7,7 @@ use Rattle.mapdb_facts.specs.declared.names.RecordId.{RecordId}
 use Rattle.mapdb_facts.specs.declared.names.Space.{Space}
 use Rattle.mapdb_lists.specs.Changes.{Cached, PageChanges, seen_in}
 use Rattle.mapdb_lists.specs.OwnPlaces.{own_meets, stands}
-use Rattle.mapdb_lists.specs.declared.own_places.OwnPlace.{OwnPlace}
+use Rattle.mapdb_lists.specs.declared.own_place.OwnPlace.{OwnPlace}
 use Rattle.mapdb_lists.specs.declared.places.Places.{Places}
 use Rattle.mapdb_rights.specs.Among.{is_shown}
 use Rattle.mapdb_rights.specs.First.{IsBehindFirst, IsFirstFound, first_where}

@@ -12,7 +12,7 @@ use Rattle.mapdb_facts.specs.declared.names.Space.{Space}
 use Rattle.mapdb_lists.specs.Listing.{listed_for, own_place, owner_places}
 use Rattle.mapdb_lists.specs.OwnPlaces.{IsSweptOn, IsSweptTo, ahead, at_start, own_list, own_meets, stands}
 use Rattle.mapdb_lists.specs.declared.own_places.NextPlace.{NextPlace}
-use Rattle.mapdb_lists.specs.declared.own_places.OwnPlace.{OwnPlace}
+use Rattle.mapdb_lists.specs.declared.own_place.OwnPlace.{OwnPlace}
 use Rattle.mapdb_lists.specs.declared.own_places.OwnPlaces.{OwnPlaces}
 use Rattle.mapdb_lists.specs.declared.own_places.Sweep.{Sweep}
 use Rattle.mapdb_lists.specs.declared.places.Owner.TheVariants as owners

@@ -14,7 +14,7 @@ use Rattle.mapdb_lists.specs.Changes.{IsStretch, PageChanges, at_first, cached_i
 use Rattle.mapdb_lists.specs.Listing.{is_listed, listed_for}
 use Rattle.mapdb_lists.specs.declared.changes.Change.{Change}
 use Rattle.mapdb_lists.specs.declared.changes.Stretch.{Stretch}
-use Rattle.mapdb_lists.specs.declared.own_places.OwnPlace.{OwnPlace}
+use Rattle.mapdb_lists.specs.declared.own_place.OwnPlace.{OwnPlace}
 use Rattle.mapdb_lists.specs.declared.places.Listed.{Listed}
 use Rattle.mapdb_lists.specs.declared.places.Owner.TheVariants as owners
 use Rattle.mapdb_lists.specs.declared.places.Places.{Places}

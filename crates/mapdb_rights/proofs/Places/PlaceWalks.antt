@@ -8,7 +8,7 @@ use Rattle.std.proofs.lemmas.Bool.{cases_Bool, false≢true, lt-ltb, or_right}
 use Rattle.std.proofs.lemmas.Map.Views.{any-filter_same}
 use Rattle.mapdb_fpage.specs.Bounds.{page_limit}
 use Rattle.mapdb_lists.specs.OwnPlaces.{AreAligned, own_meets, own_pages, place_cmp, stands}
-use Rattle.mapdb_lists.specs.declared.own_places.OwnPlace.{OwnPlace}
+use Rattle.mapdb_lists.specs.declared.own_place.OwnPlace.{OwnPlace}
 use Rattle.mapdb_lists.proofs.PlaceLemmas.LeastPlaces.{item_stands, stands_more}
 use Rattle.mapdb_lists.proofs.PlaceLemmas.Meetings.{meets_below, some_pages}
 use Rattle.mapdb_lists.proofs.PlaceLemmas.PlaceLists.{index_of}

@@ -8,7 +8,7 @@ ghost use Rattle.mapdb_facts.specs.Names.{is_first_space, root};
 ghost use Rattle.mapdb_lists.specs.Changes.{cached_in, seen_in};
 ghost use Rattle.mapdb_lists.specs.Listing.{is_listed, listed_for, owner_places};
 ghost use Rattle.mapdb_lists.specs.OwnPlaces.{own_list, own_meets, stands};
-ghost use Rattle.mapdb_lists.specs.declared.own_places.OwnPlace.{OwnPlace};
+ghost use Rattle.mapdb_lists.specs.declared.own_place.OwnPlace.{OwnPlace};
 ghost use Rattle.mapdb_lists.specs.declared.places.Owner.TheVariants as owners;
 ghost use Rattle.mapdb_rights.specs.Among.{is_shown};
 ghost use Rattle.mapdb_rights.specs.First.{IsFirstOfAll, first_where};

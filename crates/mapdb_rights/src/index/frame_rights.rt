@@ -7,7 +7,7 @@ ghost use Rattle.mapdb_facts.specs.Names.{root};
 ghost use Rattle.mapdb_lists.specs.Changes.{seen_in};
 ghost use Rattle.mapdb_lists.specs.Listing.{is_listed, listed_for, owner_places};
 ghost use Rattle.mapdb_lists.specs.OwnPlaces.{own_list, own_meets, stands};
-ghost use Rattle.mapdb_lists.specs.declared.own_places.OwnPlace.{OwnPlace};
+ghost use Rattle.mapdb_lists.specs.declared.own_place.OwnPlace.{OwnPlace};
 ghost use Rattle.mapdb_lists.specs.declared.places.Owner.TheVariants as owners;
 ghost use Rattle.mapdb_rights.specs.First.{AreAsFar, IsAllAsFar, IsJoined, joined_as_far};
 ghost use Rattle.mapdb_rights.specs.Following.{Shows};

@@ -3,7 +3,7 @@
 ghost use Rattle.std.specs.Prelude.{◌≡◌, IfOk};
 ghost use Rattle.std.specs.List.Sorted.{IsNonDecreasingBy};
 ghost use Rattle.mapdb_lists.specs.OwnPlaces.{AreAligned, own_list, stands};
-ghost use Rattle.mapdb_lists.specs.declared.own_places.OwnPlace.{OwnPlace};
+ghost use Rattle.mapdb_lists.specs.declared.own_place.OwnPlace.{OwnPlace};
 
 use mapdb_fpage::PAGE_LIMIT;
 use mapdb_lists::{OwnPlace, OwnPlaces, Sweep};

@@ -4,7 +4,7 @@ ghost use Rattle.std.specs.Prelude.{◌≡◌, ◌≤◌, ◌<◌, ℕ, List, On
 ghost use Rattle.std.specs.List.Sorted.{IsNonDecreasingBy};
 ghost use Rattle.mapdb_fpage.specs.Bounds.{page_limit};
 ghost use Rattle.mapdb_lists.specs.OwnPlaces.{AreAligned, own_pages, stands};
-ghost use Rattle.mapdb_lists.specs.declared.own_places.OwnPlace.{OwnPlace};
+ghost use Rattle.mapdb_lists.specs.declared.own_place.OwnPlace.{OwnPlace};
 ghost use Rattle.mapdb_rights.specs.PlaceWalks.{HasCome, BeginBehind};
 
 use mapdb_fpage::{LEAST_ORDER, PAGE_LIMIT};

@@ -4,7 +4,7 @@ ghost use Rattle.std.specs.Prelude.{◌≡◌, IfOk};
 ghost use Rattle.std.specs.List.Sorted.{IsNonDecreasingBy};
 ghost use Rattle.mapdb_lists.specs.Listing.{AllAligned, owner_places};
 ghost use Rattle.mapdb_lists.specs.OwnPlaces.{stands};
-ghost use Rattle.mapdb_lists.specs.declared.own_places.OwnPlace.{OwnPlace};
+ghost use Rattle.mapdb_lists.specs.declared.own_place.OwnPlace.{OwnPlace};
 ghost use Rattle.mapdb_lists.specs.declared.places.Owner.TheVariants as owners;
 
 use super::first_records::First;
@@ -40,7 +40,7 @@ impl RightsIndex {
     ghost use Rattle.mapdb_fpage.specs.Bounds.{page_limit};
     ghost use Rattle.mapdb_lists.specs.Listing.{is_listed, listed_for, owner_places};
     ghost use Rattle.mapdb_lists.specs.OwnPlaces.{own_meets, stands};
-    ghost use Rattle.mapdb_lists.specs.declared.own_places.OwnPlace.{OwnPlace};
+    ghost use Rattle.mapdb_lists.specs.declared.own_place.OwnPlace.{OwnPlace};
     ghost use Rattle.mapdb_lists.specs.declared.places.Owner.TheVariants as owners;
     ghost use Rattle.mapdb_rights.specs.First.{IsFirstOfAll};
     ghost use Rattle.mapdb_rights.specs.Index.{KeepsUp};

@@ -2,7 +2,7 @@ use Rattle.std.proofs.Common.{◌∙◌, List, ap, rules}
 use Rattle.std.proofs.lemmas.Fn.{filter_same}
 use Rattle.std.specs.Prelude.{not}
 use Rattle.std.specs.BTreeMap.{is_at}
-use Rattle.mapdb_lists.specs.declared.own_places.OwnPlace.{OwnPlace}
+use Rattle.mapdb_lists.specs.declared.own_place.OwnPlace.{OwnPlace}
 use Rattle.mapdb_lists.specs.OwnPlaces.{place_cmp, stands}
 use Rattle.mapdb_lists.proofs.PlaceLemmas.LessPlaces.{at_ne, few_without}
 use Rattle.mapdb_lists.proofs.few_places.few_remove.Goals as goal

@@ -1,7 +1,7 @@
 use Rattle.std.proofs.Common.{◌+◌, Bool, sym, subst, take}
 use Rattle.std.specs.Prelude.{Option}
 use Rattle.std.specs.BTreeMap.Range.{is_from_start}
-use Rattle.mapdb_lists.specs.declared.own_places.OwnPlace.{OwnPlace}
+use Rattle.mapdb_lists.specs.declared.own_place.OwnPlace.{OwnPlace}
 use Rattle.mapdb_lists.specs.OwnPlaces.{IsFirstPlaceWhere, lesser_where, place_cmp}
 use Rattle.mapdb_lists.proofs.PlaceLemmas.LeastPlaces.{least_step}
 use Rattle.mapdb_lists.proofs.few_places.least_inside.Goals as goal

@@ -1,6 +1,6 @@
 use Rattle.std.proofs.Common.{◌+◌, Bool, sym, subst, take}
 use Rattle.std.specs.Prelude.{Option}
-use Rattle.mapdb_lists.specs.declared.own_places.OwnPlace.{OwnPlace}
+use Rattle.mapdb_lists.specs.declared.own_place.OwnPlace.{OwnPlace}
 use Rattle.mapdb_lists.specs.OwnPlaces.{IsAlignedPlace, IsFirstPlaceWhere, is_next, lesser_where}
 use Rattle.mapdb_lists.proofs.PlaceLemmas.LeastPlaces.{item_stands, least_step}
 use Rattle.mapdb_lists.proofs.few_places.least_meeting.Goals as goal

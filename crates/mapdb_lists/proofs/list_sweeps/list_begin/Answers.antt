@@ -1,6 +1,6 @@
 use Rattle.std.proofs.Common.{◌<◌, sym, subst, arith}
 use Rattle.std.specs.Prelude.{Option, slice_get}
-use Rattle.mapdb_lists.specs.declared.own_places.OwnPlace.{OwnPlace}
+use Rattle.mapdb_lists.specs.declared.own_place.OwnPlace.{OwnPlace}
 use Rattle.mapdb_lists.specs.OwnPlaces.{HasReached}
 use Rattle.mapdb_lists.proofs.PlaceLemmas.Meetings.{begin_least, pass_end}
 use Rattle.mapdb_lists.proofs.list_sweeps.list_begin.Goals as goal

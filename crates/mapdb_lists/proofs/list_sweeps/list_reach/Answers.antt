@@ -3,7 +3,7 @@ use Rattle.std.specs.Prelude.{slice_get}
 use Rattle.std.specs.BTreeMap.Range.{is_from_start}
 use Rattle.std.specs.declared.ops.Bound.TheVariants.{Included}
 use Rattle.std.proofs.lemmas.Option.{slice_get_past}
-use Rattle.mapdb_lists.specs.declared.own_places.OwnPlace.{OwnPlace}
+use Rattle.mapdb_lists.specs.declared.own_place.OwnPlace.{OwnPlace}
 use Rattle.mapdb_lists.specs.OwnPlaces.{HasReachedFrom, IsFirstPlaceWhere, place_cmp}
 use Rattle.mapdb_lists.proofs.PlaceLemmas.Meetings.{first_reached, none_left}
 use Rattle.mapdb_lists.proofs.list_sweeps.list_reach.Goals as goal

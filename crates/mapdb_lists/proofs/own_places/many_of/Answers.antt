@@ -1,7 +1,7 @@
 use Rattle.std.proofs.Common.{◌≡◌, subst}
 use Rattle.std.specs.Prelude.{◌||◌}
 use Rattle.std.specs.BTreeMap.{is_at}
-use Rattle.mapdb_lists.specs.declared.own_places.OwnPlace.{OwnPlace}
+use Rattle.mapdb_lists.specs.declared.own_place.OwnPlace.{OwnPlace}
 use Rattle.mapdb_lists.specs.OwnPlaces.{place_cmp, stands}
 use Rattle.mapdb_lists.proofs.PlaceLemmas.LeastPlaces.{many_step}
 use Rattle.mapdb_lists.proofs.own_places.many_of.Goals as goal

@@ -4,7 +4,7 @@ use Rattle.std.specs.BTreeMap.{is_at}
 use Rattle.std.specs.Map.{lookup}
 use Rattle.std.proofs.lemmas.Option.{slice_get_read}
 use Rattle.mapdb_facts.specs.Names.{same_id}
-use Rattle.mapdb_lists.specs.declared.own_places.OwnPlace.{OwnPlace}
+use Rattle.mapdb_lists.specs.declared.own_place.OwnPlace.{OwnPlace}
 use Rattle.mapdb_lists.specs.declared.own_places.OwnPlaces.{OwnPlaces}
 use Rattle.mapdb_lists.specs.Listing.{places_in}
 use Rattle.mapdb_lists.specs.OwnPlaces.{place_cmp, stands}

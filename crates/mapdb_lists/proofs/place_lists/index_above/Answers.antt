@@ -4,7 +4,7 @@ use Rattle.std.specs.BTreeMap.Range.{is_from_start}
 use Rattle.std.specs.Ordering.{is_lt}
 use Rattle.std.specs.declared.ops.Bound.TheVariants.{Excluded}
 use Rattle.std.proofs.lemmas.List.Sorted.{IsPartitionPoint-from_clause}
-use Rattle.mapdb_lists.specs.declared.own_places.OwnPlace.{OwnPlace}
+use Rattle.mapdb_lists.specs.declared.own_place.OwnPlace.{OwnPlace}
 use Rattle.mapdb_lists.specs.OwnPlaces.{place_cmp}
 use Rattle.mapdb_lists.proofs.PlaceLemmas.PlaceLists.{after_parts, behind_one, first_where}
 use Rattle.mapdb_lists.proofs.place_lists.index_above.Goals as goal

@@ -1,7 +1,7 @@
 use Rattle.std.proofs.Common.{rules}
 use Rattle.std.specs.Ordering.{is_lt}
 use Rattle.std.proofs.lemmas.List.Sorted.{IsPartitionPoint-from_clause}
-use Rattle.mapdb_lists.specs.declared.own_places.OwnPlace.{OwnPlace}
+use Rattle.mapdb_lists.specs.declared.own_place.OwnPlace.{OwnPlace}
 use Rattle.mapdb_lists.specs.OwnPlaces.{place_cmp}
 use Rattle.mapdb_lists.proofs.PlaceLemmas.PlaceLists.{before_parts}
 use Rattle.mapdb_lists.proofs.place_lists.index_for.Goals as goal

@@ -1,7 +1,7 @@
 use Rattle.std.specs.BTreeMap.Range.{is_from_start}
 use Rattle.std.specs.Ordering.{is_lt}
 use Rattle.std.specs.declared.ops.Bound.TheVariants.{Included}
-use Rattle.mapdb_lists.specs.declared.own_places.OwnPlace.{OwnPlace}
+use Rattle.mapdb_lists.specs.declared.own_place.OwnPlace.{OwnPlace}
 use Rattle.mapdb_lists.specs.OwnPlaces.{place_cmp}
 use Rattle.mapdb_lists.proofs.PlaceLemmas.PlaceLists.{first_where, not_from}
 use Rattle.mapdb_lists.proofs.place_lists.index_from.Goals as goal

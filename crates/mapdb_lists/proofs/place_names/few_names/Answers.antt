@@ -3,7 +3,7 @@ use Rattle.std.proofs.lemmas.Bool.{false≢true}
 use Rattle.mapdb_facts.specs.declared.names.RecordId.{RecordId}
 use Rattle.mapdb_lists.specs.OwnPlaces.{IsAlignedPlace, own_meets, stands}
 use Rattle.mapdb_lists.specs.Standing.{is_named}
-use Rattle.mapdb_lists.specs.declared.own_places.OwnPlace.{OwnPlace}
+use Rattle.mapdb_lists.specs.declared.own_place.OwnPlace.{OwnPlace}
 use Rattle.mapdb_lists.proofs.PlaceLemmas.LeastPlaces.{item_stands}
 use Rattle.mapdb_lists.proofs.PlaceLemmas.PlaceNames.{named_before, named_front, named_last, next_stands}
 use Rattle.mapdb_lists.proofs.place_names.few_names.Goals as goal

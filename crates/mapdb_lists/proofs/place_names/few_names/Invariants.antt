@@ -3,7 +3,7 @@ use Rattle.std.specs.Prelude.{◌⊎◌}
 use Rattle.mapdb_facts.specs.declared.names.RecordId.{RecordId}
 use Rattle.mapdb_lists.specs.OwnPlaces.{IsNameMeeting, own_meets, stands}
 use Rattle.mapdb_lists.specs.Standing.{is_named}
-use Rattle.mapdb_lists.specs.declared.own_places.OwnPlace.{OwnPlace}
+use Rattle.mapdb_lists.specs.declared.own_place.OwnPlace.{OwnPlace}
 use Rattle.mapdb_lists.proofs.place_names.few_names.Given as goal
 
 -- each place that meets the pages comes later, or its name is there

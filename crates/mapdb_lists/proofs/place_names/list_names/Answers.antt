@@ -4,7 +4,7 @@ use Rattle.std.specs.Ordering.{is_gt}
 use Rattle.mapdb_lists.specs.OwnPlaces.{place_cmp, stands}
 use Rattle.mapdb_facts.specs.declared.names.RecordId.{RecordId}
 use Rattle.mapdb_lists.specs.Standing.{is_named}
-use Rattle.mapdb_lists.specs.declared.own_places.OwnPlace.{OwnPlace}
+use Rattle.mapdb_lists.specs.declared.own_place.OwnPlace.{OwnPlace}
 use Rattle.mapdb_lists.proofs.PlaceLemmas.PlaceLists.{index_of}
 use Rattle.mapdb_lists.proofs.PlaceLemmas.PlaceNames.{all_from, is_from, named_before, named_front, named_last, none_behind, or_next}
 use Rattle.mapdb_lists.proofs.PlaceLemmas.PlaceOrder.{le_as, le_is}

@@ -8,7 +8,7 @@ use Rattle.std.proofs.lemmas.Bool.{and_parts, eqb-true, ltb-true, or_right}
 use Rattle.mapdb_facts.specs.declared.names.RecordId.{RecordId}
 use Rattle.mapdb_lists.specs.OwnPlaces.{place_cmp, stands}
 use Rattle.mapdb_lists.specs.Standing.{is_named}
-use Rattle.mapdb_lists.specs.declared.own_places.OwnPlace.{OwnPlace}
+use Rattle.mapdb_lists.specs.declared.own_place.OwnPlace.{OwnPlace}
 use Rattle.mapdb_lists.proofs.PlaceLemmas.LeastPlaces.{sorted_rest}
 use Rattle.mapdb_lists.proofs.PlaceLemmas.PlaceNames.{first_up, held_from, named_before, named_front, named_last, or_later, passed, sorted_from, stands_from, up_from}
 use Rattle.mapdb_lists.proofs.PlaceLemmas.PlaceOrder.{le_as, le_is, place_itself}

@@ -5,7 +5,7 @@ use Rattle.std.specs.List.Sorted.{IsStrictlySortedBy}
 use Rattle.mapdb_facts.specs.declared.names.RecordId.{RecordId}
 use Rattle.mapdb_lists.specs.OwnPlaces.{IsNameFrom, place_cmp, stands}
 use Rattle.mapdb_lists.specs.Standing.{is_named}
-use Rattle.mapdb_lists.specs.declared.own_places.OwnPlace.{OwnPlace}
+use Rattle.mapdb_lists.specs.declared.own_place.OwnPlace.{OwnPlace}
 use Rattle.mapdb_lists.proofs.place_names.tree_names.Given as goal
 
 -- each place that is gathered comes later, or its name is there; those that come are in their order, from the first on

@@ -1,7 +1,7 @@
 use Rattle.std.proofs.Common.{sym, subst, List, ◌∷◌, ◌∙◌}
 use Rattle.std.specs.BTreeSet.{IsKeyRangeOf}
 use Rattle.std.specs.declared.ops.Bound.TheVariants.{Excluded, Unbounded}
-use Rattle.mapdb_lists.specs.declared.own_places.OwnPlace.{OwnPlace}
+use Rattle.mapdb_lists.specs.declared.own_place.OwnPlace.{OwnPlace}
 use Rattle.mapdb_lists.specs.OwnPlaces.{place_cmp}
 use Rattle.mapdb_lists.proofs.PlaceLemmas.LeastPlaces.{first_shown, second_none, second_shown}
 use Rattle.mapdb_lists.proofs.place_sets.set_above.Goals as goal

@@ -4,7 +4,7 @@ use Rattle.std.proofs.Common.{arith, ap, sym, subst, inl, inr, rules, ◌+◌, �
 use Rattle.std.specs.Prelude.{Option}
 use Rattle.std.specs.Ordering.{is_gt}
 use Rattle.mapdb_lists.specs.OwnPlaces.{place_cmp}
-use Rattle.mapdb_lists.specs.declared.own_places.OwnPlace.{OwnPlace}
+use Rattle.mapdb_lists.specs.declared.own_place.OwnPlace.{OwnPlace}
 use Rattle.mapdb_lists.proofs.PlaceLemmas.PlaceNames.{IsAhead, ahead_on, from_start_of, meets_from, or_above}
 use Rattle.mapdb_lists.proofs.PlaceLemmas.PlaceOrder.{le_as, le_is}
 use Rattle.mapdb_lists.proofs.many_places.ManyPlaces.add_names.Goals as goal

@@ -4,7 +4,7 @@ use Rattle.mapdb_fpage.specs.Bounds.{least_order}
 use Rattle.mapdb_facts.specs.declared.names.RecordId.{RecordId}
 use Rattle.mapdb_lists.specs.OwnPlaces.{IsNameMeeting, own_meets, stands}
 use Rattle.mapdb_lists.specs.Standing.{is_named}
-use Rattle.mapdb_lists.specs.declared.own_places.OwnPlace.{OwnPlace}
+use Rattle.mapdb_lists.specs.declared.own_place.OwnPlace.{OwnPlace}
 use Rattle.mapdb_lists.proofs.PlaceLemmas.PlaceNames.{IsAhead, orders_to_go}
 use Rattle.mapdb_lists.proofs.many_places.ManyPlaces.add_names.Given as goal
 

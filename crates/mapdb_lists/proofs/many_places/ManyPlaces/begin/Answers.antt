@@ -1,6 +1,6 @@
 use Rattle.std.proofs.Common.{◌<◌, sym, subst, arith}
 use Rattle.std.specs.Prelude.{Option, option_map}
-use Rattle.mapdb_lists.specs.declared.own_places.OwnPlace.{OwnPlace}
+use Rattle.mapdb_lists.specs.declared.own_place.OwnPlace.{OwnPlace}
 use Rattle.mapdb_lists.specs.OwnPlaces.{HasReached, spot_place}
 use Rattle.mapdb_lists.proofs.PlaceLemmas.Meetings.{begin_least, pass_end}
 use Rattle.mapdb_lists.proofs.many_places.ManyPlaces.begin.Goals as goal

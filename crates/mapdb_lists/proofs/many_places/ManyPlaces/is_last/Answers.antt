@@ -1,6 +1,6 @@
 use Rattle.std.proofs.Common.{◌≡◌, ◌≤◌, ap, sym, subst, ◌∙◌, arith}
 use Rattle.std.specs.Prelude.{Option, Some, not}
-use Rattle.mapdb_lists.specs.declared.own_places.OwnPlace.{OwnPlace}
+use Rattle.mapdb_lists.specs.declared.own_place.OwnPlace.{OwnPlace}
 use Rattle.mapdb_lists.specs.OwnPlaces.{IsFirstPlaceWhere, IsLeastPlace, is_beyond}
 use Rattle.mapdb_lists.proofs.PlaceLemmas.Meetings.{last_of_order, no_order}
 use Rattle.mapdb_lists.proofs.many_places.ManyPlaces.is_last.Goals.{else-order-via-then-order+else-first-end, else-order-via-else-order}

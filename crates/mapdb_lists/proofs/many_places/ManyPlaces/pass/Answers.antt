@@ -3,7 +3,7 @@ use Rattle.std.specs.Prelude.{◌-◌, option_map}
 use Rattle.std.specs.BTreeMap.Range.{is_from_start}
 use Rattle.std.specs.declared.ops.Bound.TheVariants.{Included}
 use Rattle.mapdb_fpage.specs.Bounds.{least_order}
-use Rattle.mapdb_lists.specs.declared.own_places.OwnPlace.{OwnPlace}
+use Rattle.mapdb_lists.specs.declared.own_place.OwnPlace.{OwnPlace}
 use Rattle.mapdb_lists.specs.OwnPlaces.{HasReachedFrom, IsFirstPlaceWhere, own_pages, place_cmp, spot_place, start}
 use Rattle.mapdb_lists.proofs.PlaceLemmas.Meetings.{ends_before, fewer_end, fewer_low, pass_end, pass_low}
 use Rattle.mapdb_lists.proofs.many_places.ManyPlaces.pass.Goals as goal

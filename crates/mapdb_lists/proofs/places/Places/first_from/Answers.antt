@@ -4,7 +4,7 @@ use Rattle.std.specs.BTreeMap.Range.{is_from_start}
 use Rattle.std.specs.Option.{option_copied}
 use Rattle.std.specs.declared.ops.Bound.TheVariants.{Included}
 use Rattle.std.proofs.lemmas.Bool.{false≢true}
-use Rattle.mapdb_lists.specs.declared.own_places.OwnPlace.{OwnPlace}
+use Rattle.mapdb_lists.specs.declared.own_place.OwnPlace.{OwnPlace}
 use Rattle.mapdb_lists.specs.declared.places.Listed.{Listed}
 use Rattle.mapdb_lists.specs.Listing.{IsFirstInside}
 use Rattle.mapdb_lists.specs.OwnPlaces.{IsFirstPlaceWhere, own_list, place_cmp}

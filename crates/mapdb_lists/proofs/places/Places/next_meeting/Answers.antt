@@ -2,7 +2,7 @@ use Rattle.std.proofs.Common.{[], ap, sym, subst, ◌∙◌}
 use Rattle.std.specs.Prelude.{None, Option}
 use Rattle.std.specs.Option.{option_copied}
 use Rattle.std.proofs.lemmas.Bool.{false≢true}
-use Rattle.mapdb_lists.specs.declared.own_places.OwnPlace.{OwnPlace}
+use Rattle.mapdb_lists.specs.declared.own_place.OwnPlace.{OwnPlace}
 use Rattle.mapdb_lists.specs.declared.places.Listed.{Listed}
 use Rattle.mapdb_lists.specs.Listing.{IsNextMeeting}
 use Rattle.mapdb_lists.specs.OwnPlaces.{IsNextPlace, own_list}

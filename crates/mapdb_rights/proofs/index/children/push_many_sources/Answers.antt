@@ -4,7 +4,7 @@ use Rattle.mapdb_facts.specs.Names.{same_id}
 use Rattle.mapdb_facts.specs.State.{State}
 use Rattle.mapdb_facts.specs.declared.names.RecordId.{RecordId}
 use Rattle.mapdb_facts.proofs.Lists.SameNames.{same_id_itself}
-use Rattle.mapdb_lists.specs.declared.own_places.OwnPlace.{OwnPlace}
+use Rattle.mapdb_lists.specs.declared.own_place.OwnPlace.{OwnPlace}
 use Rattle.mapdb_lists.specs.Listing.{own_place}
 use Rattle.mapdb_lists.specs.OwnPlaces.{ahead, own_list}
 use Rattle.mapdb_lists.proofs.PlaceLemmas.OwnSweeps.{start_ahead, start_length}

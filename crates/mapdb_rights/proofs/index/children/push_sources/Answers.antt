@@ -1,5 +1,5 @@
 use Rattle.std.proofs.Common.{sym, subst, List}
-use Rattle.mapdb_lists.specs.declared.own_places.OwnPlace.{OwnPlace}
+use Rattle.mapdb_lists.specs.declared.own_place.OwnPlace.{OwnPlace}
 use Rattle.mapdb_lists.specs.OwnPlaces.{AreAligned, IsAlignedPlace}
 use Rattle.mapdb_lists.proofs.PlaceLemmas.LeastPlaces.{item_stands}
 use Rattle.mapdb_lists.proofs.PlaceLemmas.OwnSweeps.{few_are_all}

@@ -5,7 +5,7 @@ use Rattle.mapdb_facts.specs.Facts.{state_of_facts}
 use Rattle.mapdb_lists.specs.Changes.{cached_in}
 use Rattle.mapdb_lists.specs.Listing.{is_listed, listed_for, owner_places}
 use Rattle.mapdb_lists.specs.OwnPlaces.{stands}
-use Rattle.mapdb_lists.specs.declared.own_places.OwnPlace.{OwnPlace}
+use Rattle.mapdb_lists.specs.declared.own_place.OwnPlace.{OwnPlace}
 use Rattle.mapdb_lists.specs.declared.places.Owner.TheVariants as owners
 use Rattle.mapdb_lists.proofs.PlaceLemmas.LeastPlaces.{item_stands}
 use Rattle.mapdb_rights.specs.First.{IsBehindFirst}

@@ -3,7 +3,7 @@ use Rattle.mapdb_facts.specs.Facts.{state_of_facts}
 use Rattle.mapdb_facts.specs.Names.{is_first_space, root}
 use Rattle.mapdb_lists.specs.Changes.{cached_in}
 use Rattle.mapdb_lists.specs.OwnPlaces.{own_meets, stands}
-use Rattle.mapdb_lists.specs.declared.own_places.OwnPlace.{OwnPlace}
+use Rattle.mapdb_lists.specs.declared.own_place.OwnPlace.{OwnPlace}
 use Rattle.mapdb_rights.proofs.Live.HeldWalks.{FirstHeld}
 use Rattle.mapdb_rights.proofs.Steady.ShownRuns.{Stays}
 use Rattle.mapdb_rights.proofs.index.first_until.first_until_held.Given as goal

@@ -7,7 +7,7 @@ use Rattle.mapdb_fpage.specs.declared.right_sets.Rights.{Rights}
 use Rattle.mapdb_lists.specs.Changes.{seen_in}
 use Rattle.mapdb_lists.specs.Listing.{owner_places}
 use Rattle.mapdb_lists.specs.OwnPlaces.{stands}
-use Rattle.mapdb_lists.specs.declared.own_places.OwnPlace.{OwnPlace}
+use Rattle.mapdb_lists.specs.declared.own_place.OwnPlace.{OwnPlace}
 use Rattle.mapdb_lists.specs.declared.places.Owner.TheVariants as owners
 use Rattle.mapdb_lists.proofs.PlaceLemmas.LeastPlaces.{item_stands}
 use Rattle.mapdb_rights.specs.First.{IsJoined, joined_as_far}

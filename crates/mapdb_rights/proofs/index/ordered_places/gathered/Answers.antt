@@ -1,7 +1,7 @@
 use Rattle.std.proofs.Common.{[], ◌++◌, ◌≡◌, ◌∙◌, ◌∷◌, List, ap, inl, inr, subst, sym, true}
 use Rattle.std.proofs.lemmas.Bool.{false≢true, true≢false}
 use Rattle.mapdb_lists.specs.OwnPlaces.{own_list, stands}
-use Rattle.mapdb_lists.specs.declared.own_places.OwnPlace.{OwnPlace}
+use Rattle.mapdb_lists.specs.declared.own_place.OwnPlace.{OwnPlace}
 use Rattle.mapdb_lists.proofs.PlaceLemmas.OwnSweeps.{start_ahead}
 use Rattle.mapdb_rights.proofs.Places.PlaceWalks.{meets_all, pushed, pushed_new, pushed_old}
 use Rattle.mapdb_fpage.proofs.Booleans.{same_test}

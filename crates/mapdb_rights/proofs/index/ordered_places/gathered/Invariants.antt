@@ -1,7 +1,7 @@
 use Rattle.std.proofs.Common.{◌≡◌, true, length}
 use Rattle.std.specs.Prelude.{◌⊎◌}
 use Rattle.mapdb_lists.specs.OwnPlaces.{ahead, own_list, stands}
-use Rattle.mapdb_lists.specs.declared.own_places.OwnPlace.{OwnPlace}
+use Rattle.mapdb_lists.specs.declared.own_place.OwnPlace.{OwnPlace}
 use Rattle.mapdb_rights.proofs.index.ordered_places.gathered.Given as goal
 
 -- those that were gathered are the owner's, and all others are ahead

@@ -2,7 +2,7 @@ use Rattle.std.proofs.Common.{rules, sym}
 use Rattle.std.specs.BTreeMap.{is_at}
 use Rattle.std.proofs.lemmas.List.Sorted.{IsNonDecreasingBy-from_sort_by_key, list_any-IsPermutation}
 use Rattle.mapdb_lists.specs.OwnPlaces.{place_cmp}
-use Rattle.mapdb_lists.specs.declared.own_places.OwnPlace.{OwnPlace}
+use Rattle.mapdb_lists.specs.declared.own_place.OwnPlace.{OwnPlace}
 use Rattle.mapdb_rights.proofs.index.ordered_places.put_in_order.Goals as goal
 
 pub returns-clause-ordered : goal.returns-clause-ordered

@@ -1,5 +1,5 @@
 use Rattle.std.proofs.Common.{◌<◌, ◌++◌, ◌∷◌, ◌∙◌, [], ap, arith, refl, subst}
-use Rattle.mapdb_lists.specs.declared.own_places.OwnPlace.{OwnPlace}
+use Rattle.mapdb_lists.specs.declared.own_place.OwnPlace.{OwnPlace}
 use Rattle.mapdb_rights.proofs.Places.PlaceWalks.{begin_behind, come_on}
 use Rattle.mapdb_rights.proofs.index.place_walk.PlaceWalk.enter.Goals as goal
 

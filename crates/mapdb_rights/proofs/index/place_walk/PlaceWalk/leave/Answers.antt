@@ -2,7 +2,7 @@ use Rattle.std.proofs.Common.{◌+◌, refl, rules}
 use Rattle.std.specs.Prelude.{nat_lt}
 use Rattle.std.proofs.lemmas.Fn.{filter_same}
 use Rattle.mapdb_lists.specs.OwnPlaces.{own_pages}
-use Rattle.mapdb_lists.specs.declared.own_places.OwnPlace.{OwnPlace}
+use Rattle.mapdb_lists.specs.declared.own_place.OwnPlace.{OwnPlace}
 use Rattle.mapdb_rights.proofs.Places.PlaceWalks.{come_without}
 use Rattle.mapdb_rights.proofs.index.place_walk.PlaceWalk.leave.Goals as goal
 

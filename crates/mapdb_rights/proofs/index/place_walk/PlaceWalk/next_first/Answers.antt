@@ -1,7 +1,7 @@
 use Rattle.std.proofs.Common.{◌≡◌, ◌<◌, ◌≤◌, ◌∙◌, ℕ, ap, drop, subst, sym, true}
 use Rattle.mapdb_fpage.specs.Bounds.{page_limit}
 use Rattle.mapdb_lists.specs.OwnPlaces.{stands}
-use Rattle.mapdb_lists.specs.declared.own_places.OwnPlace.{OwnPlace}
+use Rattle.mapdb_lists.specs.declared.own_place.OwnPlace.{OwnPlace}
 use Rattle.mapdb_rights.proofs.Places.PlaceWalks.{first_least, first_stands, first_within}
 use Rattle.mapdb_rights.proofs.index.place_walk.PlaceWalk.next_first.Goals as goal
 

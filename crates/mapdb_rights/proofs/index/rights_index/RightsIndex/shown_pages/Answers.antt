@@ -3,7 +3,7 @@ use Rattle.mapdb_facts.specs.Facts.{state_of_facts}
 use Rattle.mapdb_rights.specs.PlaceWalks.{HasCome}
 use Rattle.mapdb_rights.specs.ShownSpaces.{CoverPages, IsShownFrom}
 use Rattle.mapdb_rights.specs.declared.index.served_pages.SteadyPages.{SteadyPages}
-use Rattle.mapdb_lists.specs.declared.own_places.OwnPlace.{OwnPlace}
+use Rattle.mapdb_lists.specs.declared.own_place.OwnPlace.{OwnPlace}
 use Rattle.mapdb_rights.proofs.Live.ShownParts.{parts_on}
 use Rattle.mapdb_rights.proofs.index.rights_index.RightsIndex.shown_pages.Goals as goal
 
