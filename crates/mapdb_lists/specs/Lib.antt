@@ -5,6 +5,7 @@ pub mod Ascending
 pub mod OwnPlaces
 pub mod Owners
 pub mod Listing
+pub mod PageWords
 pub mod PageOrder
 pub mod OwnChanges
 pub mod Changes

@@ -23,7 +23,7 @@ pub(crate) fn spot_of(list: &[PageRights], page: u64) -> usize
     requires { PagesRise list.now }
     ensures { IsSpot list.now page result }
 {
-    list.partition_point(|next| next.page <= page)
+    list.partition_point(|next| next.page() <= page)
 }
 
 /// The last change of so many, and where it stands.
@@ -38,7 +38,7 @@ pub(crate) fn last_at(list: &[PageRights], spot: usize) -> Option<(u64, Rights)>
         return None;
     }
     let last = list[spot - 1];
-    Some((last.page, last.rights))
+    Some((last.page(), last.rights()))
 }
 
 /// The last change up to a page, and where it stands.
@@ -58,7 +58,7 @@ pub(crate) fn end_at(list: &[PageRights], spot: usize) -> u64
         → page < (get_or list.now spot d).page) → page < result }
 {
     if spot < list.len() {
-        list[spot].page.min(PAGE_LIMIT)
+        list[spot].page().min(PAGE_LIMIT)
     } else {
         PAGE_LIMIT
     }
@@ -80,7 +80,7 @@ pub(crate) fn list_next(list: &[PageRights], page: u64) -> u64
 fn has_some(next: &PageRights) -> bool
     ensures { result ≡ (nat_lt next.now.page page_limit && not (is_empty next.now.rights)) }
 {
-    next.page < PAGE_LIMIT && !next.rights.is_none()
+    next.page() < PAGE_LIMIT && !next.rights().is_none()
 }
 
 /// Whether one of the changes, at a page of the space, has rights.
@@ -109,7 +109,7 @@ pub(crate) fn index_at(list: &[PageRights], page: u64, spot: usize) -> Result<us
     ensures there { IfOk result (StandsAtPage list.now page) }
     ensures gap { IfErr result (IsGap list.now page) }
 {
-    if spot > 0 && list[spot - 1].page == page {
+    if spot > 0 && list[spot - 1].page() == page {
         Ok(spot - 1)
     } else {
         Err(spot)
@@ -129,7 +129,11 @@ pub(crate) fn map_of(
 {
     let mut map = BTreeMap::new(alloc);
     for next in list {
-        many_put(&mut map, next.page, Change::with_shift(shift, next.rights))?;
+        many_put(
+            &mut map,
+            next.page(),
+            Change::with_shift(shift, next.rights()),
+        )?;
     }
     Ok(map)
 }

@@ -2,6 +2,7 @@
 
 use crate::change_lists::{any_rights, end_at, last_at, list_last, list_next, map_of, spot_of};
 use crate::changes::{Change, Stretch};
+use crate::limits::RIGHT_SETS;
 use crate::list_writes::{list_begin, list_write};
 use mapdb_fpage::{PAGE_LIMIT, Rights};
 use smallvec::SmallVec;
@@ -9,21 +10,62 @@ use std::alloc::{AllocError, Global};
 use std::collections::BTreeMap;
 use std::marker::Model;
 
-/// A page from which other rights stand.
+/// A page from which other rights stand, and these rights: one word, whose lowest bits are the
+/// rights, as in the word of an fpage.
 #[derive(Clone, Copy, Debug)]
 pub struct PageRights {
+    /// [`RIGHT_SETS`] times the page, and the bits of the rights.
+    word: u64,
+}
+
+impl Model for PageRights {
+    ghost use Rattle.mapdb_lists.specs.PageWords.{PageWithRights, page_word, page_word_comes_back};
+    ghost use Rattle.mapdb_lists.specs.PageWords.{with_rights};
+
+    ghost Value = { PageWithRights };
+
+    ghost view = { λ p. with_rights p.word };
+
+    ghost inverse = { λ p. record { word = page_word p.page p.rights } };
+
+    ghost inverse_ok = { λ p _ i. record { word = page_word_comes_back p.word i } };
+}
+
+impl PageRights {
+    ghost use Rattle.std.specs.Prelude.{◌≡◌, ◌<◌};
+
+    /// These rights from a page on.
+    #[inline(always)]
+    pub(crate) fn new(page: u64, rights: Rights) -> PageRights
+        requires { page < PAGE_LIMIT }
+        ensures { result ≡ record { page = page; rights = rights } }
+    {
+        PageRights {
+            word: RIGHT_SETS * page + rights.bits() as u64,
+        }
+    }
+
     /// The page.
-    pub page: u64,
+    #[inline(always)]
+    pub(crate) fn page(&self) -> u64
+        ensures { result ≡ self.now.page }
+    {
+        self.word / RIGHT_SETS
+    }
+
     /// The rights from it on.
-    pub rights: Rights,
+    #[inline(always)]
+    pub(crate) fn rights(&self) -> Rights
+        ensures { result ≡ self.now.rights }
+    {
+        Rights::from_low_bits(self.word % RIGHT_SETS)
+    }
 }
 
 impl Default for PageRights {
+    /// No rights from page 0 on. It fills the room of a short list.
     fn default() -> PageRights {
-        PageRights {
-            page: 0,
-            rights: Rights::NONE,
-        }
+        PageRights { word: 0 }
     }
 }
 
@@ -181,6 +223,7 @@ impl FewChanges {
     ) -> Result<(), AllocError>
         requires some { first < end }
         requires bare { self.old.list ≡ [] }
+        requires limit { end ≤ PAGE_LIMIT }
         requires before { ShowsChange self.old.shift before }
         requires change { ShowsChange self.old.shift change }
         ensures { OnOk result (IsRewritten no_change before first end before change
@@ -204,6 +247,7 @@ impl FewChanges {
     ) -> Result<(), AllocError>
         requires some { first < end }
         requires spot { IsSpot self.old.list first spot }
+        requires limit { end ≤ PAGE_LIMIT }
         requires one { IsNoneUntil (few_change self.old) first end }
         requires before { ShowsChange self.old.shift before }
         requires was { was ≡ changed (few_change self.old) before first }

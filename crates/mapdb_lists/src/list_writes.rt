@@ -81,7 +81,7 @@ fn in_front(list: &[PageRights], index: usize, before: Rights) -> Rights
     if index == 0 {
         return before;
     }
-    list[index - 1].rights
+    list[index - 1].rights()
 }
 
 /// Puts a change in place of the one that stands at its page, if it is not what stands in front of
@@ -95,6 +95,7 @@ fn write_over(
 ) -> usize
     requires rise { PagesRise list.old.items }
     requires there { StandsAtPage list.old.items page index }
+    requires limit { page < PAGE_LIMIT }
     ensures rise { PagesRise list.new.items }
     ensures spot { IsSpot list.new.items page result }
     ensures there { unwrap_or (listed_rights list.new.items page)
@@ -108,7 +109,7 @@ fn write_over(
         take_out(list, index);
         return index;
     }
-    set_at(list.as_mut_slice(), index, PageRights { page, rights });
+    set_at(list.as_mut_slice(), index, PageRights::new(page, rights));
     index + 1
 }
 
@@ -123,6 +124,7 @@ fn write_between(
 ) -> Result<usize, AllocError>
     requires rise { PagesRise list.old.items }
     requires gap { IsGap list.old.items page index }
+    requires limit { page < PAGE_LIMIT }
     ensures rise { PagesRise list.new.items }
     ensures spot { IfOk result (IsSpot list.new.items page) }
     ensures there { OnOk result (unwrap_or (listed_rights list.new.items page)
@@ -135,7 +137,7 @@ fn write_between(
     if rights == in_front(list.as_slice(), index, before) {
         return Ok(index);
     }
-    insert_at(list, index, PageRights { page, rights })?;
+    insert_at(list, index, PageRights::new(page, rights))?;
     Ok(index + 1)
 }
 
@@ -152,6 +154,7 @@ fn write_first(
     requires rise { PagesRise list.old.items }
     requires there { IfOk found (StandsAtPage list.old.items page) }
     requires gap { IfErr found (IsGap list.old.items page) }
+    requires limit { page < PAGE_LIMIT }
     ensures rise { PagesRise list.new.items }
     ensures spot { IfOk result (IsSpot list.new.items page) }
     ensures there { OnOk result (unwrap_or (listed_rights list.new.items page)
@@ -173,8 +176,8 @@ fn change_there(list: &[PageRights], index: usize, page: u64) -> Option<Rights>
     ensures none { IfNone result ((d : PageRights) → index < length list.now
         → (get_or list.now index d).page ≡ page → ⊥) }
 {
-    if index < list.len() && list[index].page == page {
-        Some(list[index].rights)
+    if index < list.len() && list[index].page() == page {
+        Some(list[index].rights())
     } else {
         None
     }
@@ -215,10 +218,7 @@ fn write_end(
         }
         Some(_) => {}
         None => {
-            let follows = PageRights {
-                page: end,
-                rights: was,
-            };
+            let follows = PageRights::new(end, was);
             insert_at(list, spot, follows)?;
         }
     }
@@ -272,6 +272,7 @@ fn move_one(
     requires gap { IfErr found (IsGap list.old.items first) }
     requires some { first < end }
     requires one { IsNoneUntil (listed_rights list.old.items) first end }
+    requires limit { end ≤ PAGE_LIMIT }
     ensures when { IsTrue result
         ↔ IsOneForOne (listed_rights list.old.items) before first end rights }
     ensures rise { PagesRise list.new.items }
@@ -285,17 +286,11 @@ fn move_one(
     let changes = list.as_slice();
     let (index, next) = match found {
         Ok(index) if moves_on(changes, index, before, end, rights) => {
-            let next = PageRights {
-                page: end,
-                rights: was,
-            };
+            let next = PageRights::new(end, was);
             (index, next)
         }
         Err(index) if moves_back(changes, index, before, end, rights) => {
-            let next = PageRights {
-                page: first,
-                rights,
-            };
+            let next = PageRights::new(first, rights);
             (index, next)
         }
         _ => return false,
@@ -320,6 +315,7 @@ pub(crate) fn list_write(
     requires spot { IsSpot list.old.items first spot }
     requires some { first < end }
     requires one { IsNoneUntil (listed_rights list.old.items) first end }
+    requires limit { end ≤ PAGE_LIMIT }
     ensures rise { PagesRise list.new.items }
     ensures written { OnOk result (IsRewritten (listed_rights list.old.items) before first end was
         rights (listed_rights list.new.items)) }
@@ -356,20 +352,15 @@ pub(crate) fn list_begin(
 ) -> Result<(), AllocError>
     requires bare { list.old.items ≡ [] }
     requires some { first < end }
+    requires limit { end ≤ PAGE_LIMIT }
     ensures rise { PagesRise list.new.items }
     ensures written { OnOk result (IsRewritten no_change before first end before rights
         (listed_rights list.new.items)) }
 {
-    let start = PageRights {
-        page: first,
-        rights,
-    };
+    let start = PageRights::new(first, rights);
     add_change(list, start)?;
     if end < PAGE_LIMIT {
-        let behind = PageRights {
-            page: end,
-            rights: before,
-        };
+        let behind = PageRights::new(end, before);
         add_change(list, behind)?;
     }
     Ok(())

@@ -35,7 +35,8 @@ impl OwnChanges {
         end: u64,
         change: Change,
     ) -> Result<OwnChanges, AllocError>
-        requires { first < end }
+        requires some { first < end }
+        requires limit { end ≤ PAGE_LIMIT }
         ensures { IfOk result (λ own. IsRewritten no_change before first end before change
             (own_change own)) }
     {
@@ -179,6 +180,7 @@ impl OwnChanges {
         change: Change,
     ) -> Result<(), AllocError>
         requires some { first < end }
+        requires limit { end ≤ PAGE_LIMIT }
         requires spot { IsSpotIn self.old first spot }
         requires one { IsNoneUntil (own_change self.old) first end }
         requires before { CanKeep self.old before }
@@ -207,6 +209,7 @@ impl OwnChanges {
         change: Change,
     ) -> Result<(), AllocError>
         requires some { first < end }
+        requires limit { end ≤ PAGE_LIMIT }
         requires spot { IsSpotIn self.old first spot }
         requires one { IsNoneUntil (own_change self.old) first end }
         requires was { was ≡ changed (own_change self.old) before first }

@@ -74,12 +74,14 @@ returns-clause-rise c =
       | in-Ok w ↦
           let there = subst (λ f. IfOk f (StandsAtPage xs c.args.first)) w.in-Ok.is c.requires.there in
           let on = on_there xs c.as_slice-changes.result.now c.as_slice-changes.ensures c.args.first c.args.end w.in-Ok.index c.requires.some c.requires.one c.args.before c.args.rights w.moves_on.result there (w.moves_on.ensures c.args.first) in
-          subst (λ (l : List PageRights). PagesRise l) (sym (exchange xs c.as_mut_slice.result.now c.set_at.new.list c.match-found.index w.in-Ok.index (record { page = c.args.end; rights = c.args.was }) c.as_mut_slice.ensures.value w.index-is c.set_at.ensures there.inside))
+          subst (λ (l : List PageRights). PagesRise l) (sym (exchange xs c.as_mut_slice.result.now c.set_at.new.list c.match-found.index w.in-Ok.index (record { page = c.args.end; rights = c.args.was }) c.as_mut_slice.ensures.value
+          (w.index-is ∙ ap (λ (n : PageRights). (w.in-Ok.index, n)) w.new-next.ensures) c.set_at.ensures there.inside))
           (moved_on_rises xs c.requires.rise c.args.first c.args.end w.in-Ok.index c.requires.some there c.requires.one (on.0 w.if-moves_on.true).none c.args.was)
       | in-Err w ↦
           let gap = subst (λ f. IfErr f (IsGap xs c.args.first)) w.in-Err.is c.requires.gap in
           let there = subst (λ (l : List PageRights). StandsAtPage l c.args.end w.in-Err.index) c.as_slice-changes.ensures (w.moves_back.ensures.there w.if-moves_back.true) in
-          subst (λ (l : List PageRights). PagesRise l) (sym (exchange xs c.as_mut_slice.result.now c.set_at.new.list c.match-found.index w.in-Err.index (record { page = c.args.first; rights = c.args.rights }) c.as_mut_slice.ensures.value w.index-is c.set_at.ensures there.inside))
+          subst (λ (l : List PageRights). PagesRise l) (sym (exchange xs c.as_mut_slice.result.now c.set_at.new.list c.match-found.index w.in-Err.index (record { page = c.args.first; rights = c.args.rights }) c.as_mut_slice.ensures.value
+          (w.index-is ∙ ap (λ (n : PageRights). (w.in-Err.index, n)) w.new-next-in-Err.ensures) c.set_at.ensures there.inside))
           (moved_back_rises xs c.requires.rise c.args.first c.args.end w.in-Err.index c.requires.some gap there c.args.rights)
     ]
 
@@ -91,7 +93,8 @@ returns-clause-moved c done =
           let there = subst (λ f. IfOk f (StandsAtPage xs c.args.first)) w.in-Ok.is c.requires.there in
           let on = on_there xs c.as_slice-changes.result.now c.as_slice-changes.ensures c.args.first c.args.end w.in-Ok.index c.requires.some c.requires.one c.args.before c.args.rights w.moves_on.result there (w.moves_on.ensures c.args.first) in
           subst (λ (l : List PageRights). IsRewritten (listed_rights xs) c.args.before c.args.first c.args.end c.args.was c.args.rights (listed_rights l))
-          (sym (exchange xs c.as_mut_slice.result.now c.set_at.new.list c.match-found.index w.in-Ok.index (record { page = c.args.end; rights = c.args.was }) c.as_mut_slice.ensures.value w.index-is c.set_at.ensures there.inside))
+          (sym (exchange xs c.as_mut_slice.result.now c.set_at.new.list c.match-found.index w.in-Ok.index (record { page = c.args.end; rights = c.args.was }) c.as_mut_slice.ensures.value
+          (w.index-is ∙ ap (λ (n : PageRights). (w.in-Ok.index, n)) w.new-next.ensures) c.set_at.ensures there.inside))
           (moved_on xs c.requires.rise c.args.first c.args.end w.in-Ok.index c.requires.some there c.requires.one (on.0 w.if-moves_on.true).none
           c.args.before c.args.was c.args.rights (on.0 w.if-moves_on.true).left)
       | in-Err w ↦
@@ -99,6 +102,7 @@ returns-clause-moved c done =
           let back = back_there xs c.as_slice-changes.result.now c.as_slice-changes.ensures c.args.first c.args.end w.in-Err.index c.requires.some c.requires.one c.args.before c.args.rights w.moves_back.result gap (w.moves_back.ensures.back c.args.first) in
           let there = subst (λ (l : List PageRights). StandsAtPage l c.args.end w.in-Err.index) c.as_slice-changes.ensures (w.moves_back.ensures.there w.if-moves_back.true) in
           subst (λ (l : List PageRights). IsRewritten (listed_rights xs) c.args.before c.args.first c.args.end c.args.was c.args.rights (listed_rights l))
-          (sym (exchange xs c.as_mut_slice.result.now c.set_at.new.list c.match-found.index w.in-Err.index (record { page = c.args.first; rights = c.args.rights }) c.as_mut_slice.ensures.value w.index-is c.set_at.ensures there.inside))
+          (sym (exchange xs c.as_mut_slice.result.now c.set_at.new.list c.match-found.index w.in-Err.index (record { page = c.args.first; rights = c.args.rights }) c.as_mut_slice.ensures.value
+          (w.index-is ∙ ap (λ (n : PageRights). (w.in-Err.index, n)) w.new-next-in-Err.ensures) c.set_at.ensures there.inside))
           (moved_back xs c.requires.rise c.args.first c.args.end w.in-Err.index c.requires.some gap there c.args.before c.args.was c.args.rights (back.0 w.if-moves_back.true).same)
     ]

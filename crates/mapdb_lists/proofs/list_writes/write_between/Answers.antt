@@ -26,14 +26,14 @@ returns-then-eq-clause-once c same = listed_gap c.args.list.now.items c.requires
 
 pub returns-clause-rise : goal.returns-clause-rise
 returns-clause-rise c =
-    subst (λ (l : List PageRights). PagesRise l) (sym c.in_ok-insert_at.ensures.ok)
+    subst (λ (l : List PageRights). PagesRise l) (sym (c.in_ok-insert_at.ensures.ok ∙ ap (λ (n : PageRights). insert c.args.list.now.items c.args.index n) c.new.ensures))
     (insert_rises c.args.list.now.items c.requires.rise c.args.page c.args.index c.args.rights c.requires.gap)
 
 pub returns-clause-spot : goal.returns-clause-spot
 returns-clause-spot c =
     let xs = c.args.list.now.items in
     let next : PageRights = record { page = c.args.page; rights = c.args.rights } in
-    subst (λ (l : List PageRights). IsSpot l c.args.page (c.args.index + 1)) (sym c.in_ok-insert_at.ensures.ok)
+    subst (λ (l : List PageRights). IsSpot l c.args.page (c.args.index + 1)) (sym (c.in_ok-insert_at.ensures.ok ∙ ap (λ (n : PageRights). insert c.args.list.now.items c.args.index n) c.new.ensures))
     (spot_behind (insert xs c.args.index next) (insert_rises xs c.requires.rise c.args.page c.args.index c.args.rights c.requires.gap)
     c.args.page c.args.index (insert_stands xs c.requires.rise c.args.page c.args.index c.args.rights c.requires.gap))
 
@@ -42,7 +42,7 @@ returns-clause-there c =
     let xs = c.args.list.now.items in
     let next : PageRights = record { page = c.args.page; rights = c.args.rights } in
     ap (λ (o : Option Rights). unwrap_or o (left_before (listed_rights xs) c.args.before c.args.page))
-    (ap (λ (l : List PageRights). listed_rights l c.args.page) c.in_ok-insert_at.ensures.ok
+    (ap (λ (l : List PageRights). listed_rights l c.args.page) (c.in_ok-insert_at.ensures.ok ∙ ap (λ (n : PageRights). insert c.args.list.now.items c.args.index n) c.new.ensures)
     ∙ put_here (listed_rights xs) (listed_rights (insert xs c.args.index next)) c.args.page (Some c.args.rights)
     (put_between xs c.args.index c.args.page c.args.rights c.requires.gap))
 
@@ -50,6 +50,6 @@ pub returns-clause-elsewhere : goal.returns-clause-elsewhere
 returns-clause-elsewhere c q apart =
     let xs = c.args.list.now.items in
     let next : PageRights = record { page = c.args.page; rights = c.args.rights } in
-    ap (λ (l : List PageRights). listed_rights l q) c.in_ok-insert_at.ensures.ok
+    ap (λ (l : List PageRights). listed_rights l q) (c.in_ok-insert_at.ensures.ok ∙ ap (λ (n : PageRights). insert c.args.list.now.items c.args.index n) c.new.ensures)
     ∙ put_elsewhere (listed_rights xs) (listed_rights (insert xs c.args.index next)) c.args.page (Some c.args.rights)
     (put_between xs c.args.index c.args.page c.args.rights c.requires.gap) q apart

@@ -45,7 +45,7 @@ returns-in_ok-insert_at-in-None-clause-rise c =
     let xs = c.args.list.now.items in
     let gap : IsGap xs c.args.end c.args.spot = gap_at_end xs c.requires.rise c.args.first c.args.end c.args.spot c.requires.spot c.requires.some c.requires.one
     (subst (λ (l : List PageRights). (d : PageRights) → c.args.spot < length l → (get_or l c.args.spot d).page ≡ c.args.end → ⊥) c.as_slice.ensures c.in-None.ensures.none) in
-    subst (λ (l : List PageRights). PagesRise l) (sym c.in_ok-insert_at-in-None.ensures.ok)
+    subst (λ (l : List PageRights). PagesRise l) (sym (c.in_ok-insert_at-in-None.ensures.ok ∙ ap (λ (n : PageRights). insert c.args.list.now.items c.args.spot n) c.new-follows.ensures))
     (insert_rises xs c.requires.rise c.args.end c.args.spot c.args.was gap)
 
 pub returns-in_ok-insert_at-in-None-clause-there : goal.returns-in_ok-insert_at-in-None-clause-there
@@ -55,7 +55,7 @@ returns-in_ok-insert_at-in-None-clause-there c inside =
     let gap : IsGap xs c.args.end c.args.spot = gap_at_end xs c.requires.rise c.args.first c.args.end c.args.spot c.requires.spot c.requires.some c.requires.one
     (subst (λ (l : List PageRights). (d : PageRights) → c.args.spot < length l → (get_or l c.args.spot d).page ≡ c.args.end → ⊥) c.as_slice.ensures c.in-None.ensures.none) in
     ap (λ (o : Option Rights). unwrap_or o c.args.rights)
-    (ap (λ (l : List PageRights). listed_rights l c.args.end) c.in_ok-insert_at-in-None.ensures.ok
+    (ap (λ (l : List PageRights). listed_rights l c.args.end) (c.in_ok-insert_at-in-None.ensures.ok ∙ ap (λ (n : PageRights). insert c.args.list.now.items c.args.spot n) c.new-follows.ensures)
     ∙ put_here (listed_rights xs) (listed_rights (insert xs c.args.spot next)) c.args.end (Some c.args.was) (put_between xs c.args.spot c.args.end c.args.was gap))
     ∙ sym (ap (λ (o : Option Rights). unwrap_or o c.args.was) (listed_gap xs c.requires.rise c.args.end c.args.spot gap))
 
@@ -75,5 +75,5 @@ returns-in_ok-insert_at-in-None-clause-elsewhere c q apart =
     let next : PageRights = record { page = c.args.end; rights = c.args.was } in
     let gap : IsGap xs c.args.end c.args.spot = gap_at_end xs c.requires.rise c.args.first c.args.end c.args.spot c.requires.spot c.requires.some c.requires.one
     (subst (λ (l : List PageRights). (d : PageRights) → c.args.spot < length l → (get_or l c.args.spot d).page ≡ c.args.end → ⊥) c.as_slice.ensures c.in-None.ensures.none) in
-    ap (λ (l : List PageRights). listed_rights l q) c.in_ok-insert_at-in-None.ensures.ok
+    ap (λ (l : List PageRights). listed_rights l q) (c.in_ok-insert_at-in-None.ensures.ok ∙ ap (λ (n : PageRights). insert c.args.list.now.items c.args.spot n) c.new-follows.ensures)
     ∙ put_elsewhere (listed_rights xs) (listed_rights (insert xs c.args.spot next)) c.args.end (Some c.args.was) (put_between xs c.args.spot c.args.end c.args.was gap) q apart

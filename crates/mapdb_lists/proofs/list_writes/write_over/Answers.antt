@@ -53,7 +53,8 @@ pub returns-clause-rise : goal.returns-clause-rise
 returns-clause-rise c =
     let xs = c.args.list.now.items in
     let next : PageRights = record { page = c.args.page; rights = c.args.rights } in
-    let is : c.set_at.new.list ≡ slice_set xs c.args.index next = c.set_at.ensures ∙ ap (λ (l : List PageRights). slice_set l c.args.index next) c.as_mut_slice.ensures.value in
+    let is : c.set_at.new.list ≡ slice_set xs c.args.index next = c.set_at.ensures ∙ ap (λ (l : List PageRights). slice_set l c.args.index c.new.result) c.as_mut_slice.ensures.value
+    ∙ ap (λ (n : PageRights). slice_set xs c.args.index n) c.new.ensures in
     subst (λ (l : List PageRights). PagesRise l)
     (sym (refilled xs c.set_at.new.list (ap (λ (l : List PageRights). length l) is ∙ length-set xs c.args.index next) ∙ is))
     (set_rises xs c.requires.rise c.args.page c.args.index c.args.rights c.requires.there)
@@ -62,7 +63,8 @@ pub returns-clause-spot : goal.returns-clause-spot
 returns-clause-spot c =
     let xs = c.args.list.now.items in
     let next : PageRights = record { page = c.args.page; rights = c.args.rights } in
-    let is : c.set_at.new.list ≡ slice_set xs c.args.index next = c.set_at.ensures ∙ ap (λ (l : List PageRights). slice_set l c.args.index next) c.as_mut_slice.ensures.value in
+    let is : c.set_at.new.list ≡ slice_set xs c.args.index next = c.set_at.ensures ∙ ap (λ (l : List PageRights). slice_set l c.args.index c.new.result) c.as_mut_slice.ensures.value
+    ∙ ap (λ (n : PageRights). slice_set xs c.args.index n) c.new.ensures in
     subst (λ (l : List PageRights). IsSpot l c.args.page (c.args.index + 1))
     (sym (refilled xs c.set_at.new.list (ap (λ (l : List PageRights). length l) is ∙ length-set xs c.args.index next) ∙ is))
     (spot_behind (slice_set xs c.args.index next) (set_rises xs c.requires.rise c.args.page c.args.index c.args.rights c.requires.there)
@@ -72,7 +74,8 @@ pub returns-clause-there : goal.returns-clause-there
 returns-clause-there c =
     let xs = c.args.list.now.items in
     let next : PageRights = record { page = c.args.page; rights = c.args.rights } in
-    let is : c.set_at.new.list ≡ slice_set xs c.args.index next = c.set_at.ensures ∙ ap (λ (l : List PageRights). slice_set l c.args.index next) c.as_mut_slice.ensures.value in
+    let is : c.set_at.new.list ≡ slice_set xs c.args.index next = c.set_at.ensures ∙ ap (λ (l : List PageRights). slice_set l c.args.index c.new.result) c.as_mut_slice.ensures.value
+    ∙ ap (λ (n : PageRights). slice_set xs c.args.index n) c.new.ensures in
     ap (λ (o : Option Rights). unwrap_or o (left_before (listed_rights xs) c.args.before c.args.page))
     (ap (λ (l : List PageRights). listed_rights l c.args.page) (refilled xs c.set_at.new.list (ap (λ (l : List PageRights). length l) is ∙ length-set xs c.args.index next) ∙ is)
     ∙ put_here (listed_rights xs) (listed_rights (slice_set xs c.args.index next)) c.args.page (Some c.args.rights)
@@ -90,7 +93,8 @@ pub returns-clause-elsewhere : goal.returns-clause-elsewhere
 returns-clause-elsewhere c q apart =
     let xs = c.args.list.now.items in
     let next : PageRights = record { page = c.args.page; rights = c.args.rights } in
-    let is : c.set_at.new.list ≡ slice_set xs c.args.index next = c.set_at.ensures ∙ ap (λ (l : List PageRights). slice_set l c.args.index next) c.as_mut_slice.ensures.value in
+    let is : c.set_at.new.list ≡ slice_set xs c.args.index next = c.set_at.ensures ∙ ap (λ (l : List PageRights). slice_set l c.args.index c.new.result) c.as_mut_slice.ensures.value
+    ∙ ap (λ (n : PageRights). slice_set xs c.args.index n) c.new.ensures in
     ap (λ (l : List PageRights). listed_rights l q) (refilled xs c.set_at.new.list (ap (λ (l : List PageRights). length l) is ∙ length-set xs c.args.index next) ∙ is)
     ∙ put_elsewhere (listed_rights xs) (listed_rights (slice_set xs c.args.index next)) c.args.page (Some c.args.rights)
     (put_over xs c.requires.rise c.args.index c.args.page c.args.rights c.requires.there) q apart
