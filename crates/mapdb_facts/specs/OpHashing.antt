@@ -22,13 +22,13 @@ abbrev pub after_bytes : ℕ → List ℕ → ℕ
 after_bytes state bytes = fold after_word state bytes
 
 -- eight bytes as a word, the lowest first
-abbrev pub word_of : List ℕ → ℕ
-word_of bytes = from_le_bytes w64 bytes
+abbrev pub little_endian : List ℕ → ℕ
+little_endian bytes = from_le_bytes w64 bytes
 
 -- the hasher after some bytes: eight are one word, and of others each is one
-abbrev pub write : OpHasher → List ℕ → OpHasher
-write hasher bytes = record {
-  state = if length bytes == 8 then after_word hasher.state (word_of bytes)
+abbrev pub written : OpHasher → List ℕ → OpHasher
+written hasher bytes = record {
+  state = if length bytes == 8 then after_word hasher.state (little_endian bytes)
       else after_bytes hasher.state bytes;
 }
 

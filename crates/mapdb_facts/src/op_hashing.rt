@@ -1,7 +1,7 @@
 //! How operations are spread over the table of a set.
 
 ghost use Rattle.std.specs.Prelude.{◌≡◌, length};
-ghost use Rattle.mapdb_facts.specs.OpHashing.{after_bytes, after_word, product, word_of};
+ghost use Rattle.mapdb_facts.specs.OpHashing.{after_bytes, after_word, little_endian, product};
 
 use crate::limits::PROCESSOR_LIMIT;
 use std::hash::Hasher;
@@ -48,9 +48,9 @@ fn after_bytes(state: u64, bytes: &[u8]) -> u64
 }
 
 /// Eight bytes as a word, the lowest first.
-fn word_of(bytes: &[u8]) -> u64
+fn little_endian(bytes: &[u8]) -> u64
     requires { length bytes.now ≡ 8 }
-    ensures { result ≡ word_of bytes.now }
+    ensures { result ≡ little_endian bytes.now }
 {
     u64::from_le_bytes([
         bytes[0], bytes[1], bytes[2], bytes[3], bytes[4], bytes[5], bytes[6], bytes[7],
@@ -68,9 +68,9 @@ impl Default for OpHasher {
 }
 
 impl Hasher for OpHasher {
-    ghost use Rattle.mapdb_facts.specs.OpHashing.{finish, write};
+    ghost use Rattle.mapdb_facts.specs.OpHashing.{finish, written};
 
-    ghost write = { write };
+    ghost write = { written };
 
     ghost finish = { finish };
 
@@ -82,7 +82,7 @@ impl Hasher for OpHasher {
 
     fn write(&mut self, bytes: &[u8]) {
         self.state = if bytes.len() == 8 {
-            after_word(self.state, word_of(bytes))
+            after_word(self.state, little_endian(bytes))
         } else {
             after_bytes(self.state, bytes)
         };

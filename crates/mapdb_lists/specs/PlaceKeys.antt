@@ -19,8 +19,8 @@ abbrev pub key_of : ℕ → ℕ → ℕ
 key_of order first = first_limit * order + first
 
 -- the place of such a number, for a record
-abbrev pub placed : ℕ → RecordId → OrderedPlace
-placed key id = record { order = key / first_limit; first = key % first_limit; id = id }
+abbrev pub place_of_key : ℕ → RecordId → OrderedPlace
+place_of_key key id = record { order = key / first_limit; first = key % first_limit; id = id }
 
 -- a number says an order and a first page, and nothing else
 pub key_comes_back : (key : ℕ) → key_of (key / first_limit) (key % first_limit) ≡ key

@@ -26,8 +26,8 @@ place_total =
     then_total (on_total (λ (p : OwnPlace). p.order) nat_cmp_total)
     (then_total (on_total (λ (p : OwnPlace). p.first) nat_cmp_total) (on_total (λ (p : OwnPlace). p.id) id_total))
 
-pub place_at : (a b : OwnPlace) → is_at (place_cmp a) b ≡ same_own a b
-place_at a b =
+pub same_at_own : (a b : OwnPlace) → is_at (place_cmp a) b ≡ same_own a b
+same_at_own a b =
     sym (tied_then (nat_cmp a.order b.order) (ordering_then (nat_cmp a.first b.first) (id_cmp a.id b.id)))
     ∙ (λ i. nat_at a.order b.order i && last i)
   where
@@ -35,11 +35,11 @@ place_at a b =
     last = sym (tied_then (nat_cmp a.first b.first) (id_cmp a.id b.id)) ∙ (λ i. nat_at a.first b.first i && id_at a.id b.id i)
 
 pub same_where_equal : (a b : OwnPlace) → same_own a b ≡ is_eq (place_cmp a b)
-same_where_equal a b = sym (place_at a b)
+same_where_equal a b = sym (same_at_own a b)
 
-pub exact_place : (a b : OwnPlace) → is_at (place_cmp a) b ≡ true → a ≡ b
-exact_place a b h =
-    let p = and_parts (nat_eq a.order b.order) _ (sym (place_at a b) ∙ h) in
+pub exact_own : (a b : OwnPlace) → is_at (place_cmp a) b ≡ true → a ≡ b
+exact_own a b h =
+    let p = and_parts (nat_eq a.order b.order) _ (sym (same_at_own a b) ∙ h) in
     let q = and_parts (nat_eq a.first b.first) (same_id a.id b.id) p.1 in
     let order = eqb-true a.order b.order p.0 in
     let first = eqb-true a.first b.first q.0 in
@@ -55,7 +55,7 @@ pub same_own_equivalence : IsEquivalence same_own
 same_own_equivalence = record {
   refl = λ a. same_where_equal a a ∙ ap is_eq (tied_itself place_total a);
   symm = λ a b. same_where_equal a b ∙ ap is_eq (place_total.antisymm a b) ∙ back (place_cmp b a) ∙ sym (same_where_equal b a);
-  congr = λ a b c h. ap (λ (x : OwnPlace). same_own x c) (exact_place a b (place_at a b ∙ h));
+  congr = λ a b c h. ap (λ (x : OwnPlace). same_own x c) (exact_own a b (same_at_own a b ∙ h));
 }
 
 pub places_partly_ordered : IsPartialOrder same_own (as_partial_cmp place_cmp)

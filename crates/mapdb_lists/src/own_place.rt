@@ -21,11 +21,11 @@ pub struct OwnPlace {
 }
 
 impl Model for OwnPlace {
-    ghost use Rattle.mapdb_lists.specs.PlaceKeys.{OrderedPlace, key_comes_back, key_of, placed};
+    ghost use Rattle.mapdb_lists.specs.PlaceKeys.{OrderedPlace, key_comes_back, key_of, place_of_key};
 
     ghost Value = { OrderedPlace };
 
-    ghost view = { λ p. placed p.key p.id };
+    ghost view = { λ p. place_of_key p.key p.id };
 
     ghost inverse = { λ p. record { key = key_of p.order p.first; id = p.id } };
 

@@ -19,7 +19,7 @@ use Rattle.std.proofs.lemmas.Map.Views.{any-filter_same}
 use Rattle.mapdb_lists.specs.declared.own_place.OwnPlace.{OwnPlace}
 use Rattle.mapdb_lists.specs.OwnPlaces.{IsFirstPlaceWhere, IsLeastPlace, is_beyond, lesser_place, lesser_where, place_cmp, stands}
 use Rattle.mapdb_lists.proofs.Lists.ListedOrder.{less_from}
-use Rattle.mapdb_lists.proofs.PlaceLemmas.PlaceOrder.{at_back, exact_place, le_as, le_is, le_itself, le_on, lt_le, not_before, place_itself, place_total}
+use Rattle.mapdb_lists.proofs.PlaceLemmas.PlaceOrder.{at_back, exact_own, le_as, le_is, le_itself, le_on, lt_le, not_before, place_itself, place_total}
 
 -- ---- a list with one place more
 
@@ -55,7 +55,7 @@ module _ (test : OwnPlace → Bool) (done : List OwnPlace) (p : OwnPlace) where
   either_stands : (k : OwnPlace) → stands (done ++ p ∷ []) k ≡ true → (p ≡ k) ⊎ (stands done k ≡ true)
   either_stands k has =
       elim (cases_Bool (is_at (place_cmp p) k)) [
-        | inl here ↦ inl (exact_place p k here)
+        | inl here ↦ inl (exact_own p k here)
         | inr other ↦ inr (ap (λ (b : Bool). b || stands done k) (sym other) ∙ sym (stands_more done p k) ∙ has)
       ]
 
@@ -150,7 +150,7 @@ sorted_rest p rest h = h
 pub any_below : (q k : OwnPlace) (xs : List OwnPlace) → AllByRecursion (λ (y : OwnPlace). place_cmp q y ≡ Less) xs → stands xs k ≡ true → place_cmp q k ≡ Less
 any_below q k [] all has = absurd (true≢false (sym has))
 any_below q k (x ∷ xs) all has = elim (cases_Bool (is_at (place_cmp k) x)) [
-  | inl here ↦ subst (λ (y : OwnPlace). place_cmp q y ≡ Less) (sym (exact_place k x here)) all.0
+  | inl here ↦ subst (λ (y : OwnPlace). place_cmp q y ≡ Less) (sym (exact_own k x here)) all.0
   | inr other ↦ any_below q k xs all.1 (sym (ap (λ (b : Bool). b || stands xs k) other) ∙ has)
 ]
 
@@ -164,7 +164,7 @@ module _ (set : BTreeSet OwnPlace) (start : Bound OwnPlace) (p : OwnPlace) (rest
   found_as k =
       ap (λ (xs : List OwnPlace). stands xs k) is
       ∙ any-filter_same (is_at (place_cmp k)) (range_contains place_cmp start Unbounded) (range_contains place_cmp start Unbounded k)
-      (λ x same. ap (range_contains place_cmp start Unbounded) (sym (exact_place k x same))) set.keys
+      (λ x same. ap (range_contains place_cmp start Unbounded) (sym (exact_own k x same))) set.keys
 
   on_from : (start : Bound OwnPlace) (k : OwnPlace) → IsFromStart place_cmp start p → place_cmp p k ≡ Less → range_contains place_cmp start Unbounded k ≡ true
   on_from (Included a) k h less = ap (λ (b : Bool). b && true) (le_as (place_cmp a k) (le_on a p k h (ap is_gt less)))
@@ -199,6 +199,6 @@ module _ (set : BTreeSet OwnPlace) (start : Bound OwnPlace) (p : OwnPlace) (rest
     where
       by : (k : OwnPlace) → stands (q ∷ more) k ≡ true → AllByRecursion (λ (y : OwnPlace). place_cmp q y ≡ Less) more → is_gt (place_cmp q k) ≡ false
       by k has all = elim (cases_Bool (is_at (place_cmp k) q)) [
-        | inl same ↦ subst (λ (x : OwnPlace). is_gt (place_cmp q x) ≡ false) (sym (exact_place k q same)) (le_itself q)
+        | inl same ↦ subst (λ (x : OwnPlace). is_gt (place_cmp q x) ≡ false) (sym (exact_own k q same)) (le_itself q)
         | inr other ↦ ap is_gt (any_below q k more all (sym (ap (λ (b : Bool). b || stands more k) other) ∙ has))
       ]

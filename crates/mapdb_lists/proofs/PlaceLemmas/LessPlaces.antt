@@ -21,7 +21,7 @@ use Rattle.mapdb_lists.specs.OwnPlaces.{own_list, place_cmp, stands}
 use Rattle.mapdb_lists.proofs.Lists.ListedOrder.{exact_owner, less_from, listed_apart}
 use Rattle.mapdb_lists.proofs.PlaceLemmas.OwnersPlaces.{cmp_is}
 use Rattle.mapdb_lists.proofs.PlaceLemmas.PlaceLists.{index_of, not_itself, up}
-use Rattle.mapdb_lists.proofs.PlaceLemmas.PlaceOrder.{at_back, same_own, exact_place, place_at}
+use Rattle.mapdb_lists.proofs.PlaceLemmas.PlaceOrder.{at_back, same_own, exact_own, same_at_own}
 
 -- ---- of two lists, which of them one place is left out of
 
@@ -29,7 +29,7 @@ use Rattle.mapdb_lists.proofs.PlaceLemmas.PlaceOrder.{at_back, same_own, exact_p
 without : (old new : List OwnPlace) (p k : OwnPlace) → stands new p ≡ false → (is_at (place_cmp p) k ≡ false → stands new k ≡ stands old k)
     → stands new k ≡ (not (is_at (place_cmp p) k) && stands old k)
 without old new p k gone stays = elim (cases_Bool (is_at (place_cmp p) k)) [
-  | inl here ↦ subst (λ (x : OwnPlace). stands new x ≡ false) (exact_place p k here) gone ∙ sym (ap (λ (b : Bool). not b && stands old k) here)
+  | inl here ↦ subst (λ (x : OwnPlace). stands new x ≡ false) (exact_own p k here) gone ∙ sym (ap (λ (b : Bool). not b && stands old k) here)
   | inr other ↦ stays other ∙ sym (ap (λ (b : Bool). not b && stands old k) other)
 ]
 
@@ -88,13 +88,13 @@ stands_nowhere places ascend index p parted new =
 
 -- what a comparison tells apart differs in the order
 pub at_ne : (p x : OwnPlace) → not (same_own x p) ≡ not (is_at (place_cmp p) x)
-at_ne p x = ap not (sym (place_at x p) ∙ at_back x p)
+at_ne p x = ap not (sym (same_at_own x p) ∙ at_back x p)
 
 -- without each that equals a place
 pub few_without : (places : List OwnPlace) (p k : OwnPlace) → stands (filter (λ x. not (is_at (place_cmp p) x)) places) k ≡ (not (is_at (place_cmp p) k) && stands places k)
 few_without places p k =
     any-filter_same (is_at (place_cmp k)) (λ x. not (is_at (place_cmp p) x)) (not (is_at (place_cmp p) k))
-    (λ x same. ap (λ (y : OwnPlace). not (is_at (place_cmp p) y)) (sym (exact_place k x same))) places
+    (λ x same. ap (λ (y : OwnPlace). not (is_at (place_cmp p) y)) (sym (exact_own k x same))) places
 
 -- ---- by the key of an owner
 

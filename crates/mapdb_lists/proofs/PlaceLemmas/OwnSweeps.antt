@@ -15,18 +15,18 @@ use Rattle.mapdb_lists.specs.declared.own_places.Sweep.{Sweep}
 use Rattle.mapdb_lists.specs.OwnPlaces.{IsLastWhereSaid, IsLeastNext, IsNextPlace, IsSweptTo, ahead, at_start, few_list, is_beyond, many_ahead, own_list, own_meets, place_cmp, stands}
 use Rattle.mapdb_lists.proofs.Lists.Entries.{fewer}
 use Rattle.mapdb_lists.proofs.Lists.ListedOrder.{less_from}
-use Rattle.mapdb_lists.proofs.PlaceLemmas.PlaceOrder.{exact_place, place_total, same_or_above}
+use Rattle.mapdb_lists.proofs.PlaceLemmas.PlaceOrder.{exact_own, place_total, same_or_above}
 
 -- ---- of many
 
 -- what is left of them stands behind the last that was found
 above_stands : (after : Option OwnPlace) (places : List OwnPlace) (k : OwnPlace) → stands (filter (is_beyond after) places) k ≡ (is_beyond after k && stands places k)
-above_stands after places k = any-filter_same (is_at (place_cmp k)) (is_beyond after) (is_beyond after k) (λ x same. ap (is_beyond after) (sym (exact_place k x same))) places
+above_stands after places k = any-filter_same (is_at (place_cmp k)) (is_beyond after) (is_beyond after k) (λ x same. ap (is_beyond after) (sym (exact_own k x same))) places
 
 -- behind a place there are fewer than where it was found
 fewer_beyond : (places : List OwnPlace) (after : Option OwnPlace) (p : OwnPlace) → stands places p ≡ true → is_beyond after p ≡ true
     → length (filter (is_beyond (Some p)) places) < length (filter (is_beyond after) places)
-fewer_beyond places after p has above = fewer (is_beyond (Some p)) (is_beyond after) (chain after above) (is_at (place_cmp p)) (λ x at. here x (exact_place p x at)) places has
+fewer_beyond places after p has above = fewer (is_beyond (Some p)) (is_beyond after) (chain after above) (is_at (place_cmp p)) (λ x at. here x (exact_own p x at)) places has
   where
     chain : (after : Option OwnPlace) → is_beyond after p ≡ true → (x : OwnPlace) → is_beyond (Some p) x ≡ true → is_beyond after x ≡ true
     chain None _ x later = refl

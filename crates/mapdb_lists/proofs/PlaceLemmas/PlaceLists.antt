@@ -18,7 +18,7 @@ use Rattle.mapdb_lists.specs.Ascending.{Ascend, IsAtIndex}
 use Rattle.mapdb_lists.specs.OwnPlaces.{IsFirstPlaceWhere, IsLeastPlace, is_beyond, place_cmp, stands, start}
 use Rattle.mapdb_lists.proofs.Lists.ListedOrder.{less_from}
 use Rattle.mapdb_lists.proofs.PlaceLemmas.LeastPlaces.{item_stands}
-use Rattle.mapdb_lists.proofs.PlaceLemmas.PlaceOrder.{at_back, exact_place, le_itself, not_before, place_total, same_or_above}
+use Rattle.mapdb_lists.proofs.PlaceLemmas.PlaceOrder.{at_back, exact_own, le_itself, not_before, place_total, same_or_above}
 
 -- where a place that stands in the list stands
 pub record IsIndexOf (places : List OwnPlace) (p : OwnPlace) : Type 0 where
@@ -32,7 +32,7 @@ index_of places p has =
     record {
       index = found.0;
       inside = found.2;
-      here = λ d. get_or_default places found.0 d found.1 found.2 ∙ found.3 ∙ sym (exact_place p found.1 found.4);
+      here = λ d. get_or_default places found.0 d found.1 found.2 ∙ found.3 ∙ sym (exact_own p found.1 found.4);
     }
 
 pub at_stands : (places : List OwnPlace) (index : ℕ) (p : OwnPlace) → IsAtIndex places index p → stands places p ≡ true

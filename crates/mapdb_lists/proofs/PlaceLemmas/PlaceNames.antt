@@ -24,7 +24,7 @@ use Rattle.mapdb_lists.specs.Standing.{HaveOrders, IsNextOrder, has_order, is_na
 use Rattle.mapdb_lists.specs.declared.orders.Orders.{Orders}
 use Rattle.mapdb_lists.proofs.PlaceLemmas.Meetings.{aligned_start, meets_below, over_low, some_pages}
 use Rattle.mapdb_lists.proofs.PlaceLemmas.LeastPlaces.{any_below, any_more, sorted_rest}
-use Rattle.mapdb_lists.proofs.PlaceLemmas.PlaceOrder.{exact_place, le_as, le_is, le_itself, le_parts, not_before, start_le}
+use Rattle.mapdb_lists.proofs.PlaceLemmas.PlaceOrder.{exact_own, le_as, le_is, le_itself, le_parts, not_before, start_le}
 use Rattle.mapdb_lists.proofs.PlaceLemmas.PlaceLists.{at_index, no_later, not_from}
 
 -- what is named among some is named among more
@@ -43,7 +43,7 @@ named_last id (other ∷ names) last e = or_right (is_at (id_cmp id) other) (is_
 -- of what comes the first is gathered, or it comes later
 pub or_later : (p place : OwnPlace) (rest : List OwnPlace) → stands (place ∷ rest) p ≡ true → (stands rest p ≡ true) ⊎ (p ≡ place)
 or_later p place rest has = elim (cases_Bool (is_at (place_cmp p) place)) [
-  | inl here ↦ inr (exact_place p place here)
+  | inl here ↦ inr (exact_own p place here)
   | inr other ↦ inl (sym (ap (λ (b : Bool). b || stands rest p) other) ∙ has)
 ]
 
@@ -82,7 +82,7 @@ passed from place p end from_up up over same begins =
 -- of places in their order the first comes no later than any
 pub first_up : (p k : OwnPlace) (rest : List OwnPlace) → IsStrictlySortedBy place_cmp (p ∷ rest) → stands (p ∷ rest) k ≡ true → is_gt (place_cmp p k) ≡ false
 first_up p k rest sorted has = elim (cases_Bool (is_at (place_cmp k) p)) [
-  | inl same ↦ subst (λ (x : OwnPlace). is_gt (place_cmp p x) ≡ false) (sym (exact_place k p same)) (le_itself p)
+  | inl same ↦ subst (λ (x : OwnPlace). is_gt (place_cmp p x) ≡ false) (sym (exact_own k p same)) (le_itself p)
   | inr other ↦ ap is_gt (any_below p k rest (sorted_rest p rest sorted).0 (sym (ap (λ (b : Bool). b || stands rest k) other) ∙ has))
 ]
 
@@ -93,7 +93,7 @@ module _ (keys items : List OwnPlace) (from : OwnPlace) (is : items ≡ filter (
   found_as k =
       ap (λ (xs : List OwnPlace). stands xs k) is
       ∙ any-filter_same (is_at (place_cmp k)) (range_contains place_cmp (Included from) Unbounded) (range_contains place_cmp (Included from) Unbounded k)
-      (λ x same. ap (range_contains place_cmp (Included from) Unbounded) (sym (exact_place k x same))) keys
+      (λ x same. ap (range_contains place_cmp (Included from) Unbounded) (sym (exact_own k x same))) keys
 
   pub sorted_from : IsStrictlySortedBy place_cmp keys → IsStrictlySortedBy place_cmp items
   sorted_from ordered =

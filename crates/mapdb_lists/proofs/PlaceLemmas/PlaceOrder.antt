@@ -11,7 +11,7 @@ use Rattle.mapdb_facts.proofs.Lists.Comparing.{from_below}
 use Rattle.mapdb_facts.specs.Kept.{id_cmp}
 use Rattle.mapdb_facts.specs.Names.{root}
 use Rattle.mapdb_lists.specs.declared.own_place.OwnPlace.{OwnPlace}
-pub use Rattle.mapdb_lists.specs.PlaceOrders.{exact_place, place_at, place_total, same_own}
+pub use Rattle.mapdb_lists.specs.PlaceOrders.{exact_own, same_at_own, place_total, same_own}
 use Rattle.mapdb_lists.specs.OwnPlaces.{place_cmp, start}
 use Rattle.mapdb_lists.proofs.Lists.ListedOrder.{from_equal, less_from, root_first, three_ways, up_to}
 
@@ -65,7 +65,7 @@ same_or_above a b h = by (place_cmp a b) refl h
   where
     by : (o : Ordering) → place_cmp a b ≡ o → is_gt o ≡ false → (a ≡ b) ⊎ (place_cmp a b ≡ Less)
     by Less e k = inr e
-    by Equal e k = inl (exact_place a b (ap is_eq e))
+    by Equal e k = inl (exact_own a b (ap is_eq e))
     by Greater e k = absurd (true≢false k)
 
 -- what does not come before another comes no earlier

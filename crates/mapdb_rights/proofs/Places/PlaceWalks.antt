@@ -12,7 +12,7 @@ use Rattle.mapdb_lists.specs.declared.own_place.OwnPlace.{OwnPlace}
 use Rattle.mapdb_lists.proofs.PlaceLemmas.LeastPlaces.{item_stands, stands_more}
 use Rattle.mapdb_lists.proofs.PlaceLemmas.Meetings.{meets_below, some_pages}
 use Rattle.mapdb_lists.proofs.PlaceLemmas.PlaceLists.{index_of}
-use Rattle.mapdb_lists.proofs.PlaceLemmas.PlaceOrder.{exact_place, place_itself}
+use Rattle.mapdb_lists.proofs.PlaceLemmas.PlaceOrder.{exact_own, place_itself}
 use Rattle.mapdb_rights.specs.PlaceWalks.{BeginBehind, HasCome}
 use Rattle.mapdb_rights.specs.declared.index.place_walk.PlaceWalk.{PlaceWalk}
 
@@ -20,7 +20,7 @@ use Rattle.mapdb_rights.specs.declared.index.place_walk.PlaceWalk.{PlaceWalk}
 
 pub pushed : (places : List OwnPlace) (x p : OwnPlace) → stands (places ++ x ∷ []) p ≡ true → (x ≡ p) ⊎ (stands places p ≡ true)
 pushed places x p has = elim (cases_Bool (is_at (place_cmp x) p)) [
-  | inl here ↦ inl (exact_place x p here)
+  | inl here ↦ inl (exact_own x p here)
   | inr other ↦ inr (ap (λ (b : Bool). b || stands places p) (sym other) ∙ sym (stands_more places x p) ∙ has)
 ]
 
@@ -34,7 +34,7 @@ pushed_new places x = stands_more places x x ∙ ap (λ (b : Bool). b || stands 
 pub first_or_later : (places : List OwnPlace) (i : ℕ) (d p : OwnPlace) → i < length places → stands (drop i places) p ≡ true
     → (get_or places i d ≡ p) ⊎ (stands (drop (i + 1) places) p ≡ true)
 first_or_later places i d p inside has = elim (cases_Bool (is_at (place_cmp p) (get_or places i d))) [
-  | inl here ↦ inl (sym (exact_place p (get_or places i d) here))
+  | inl here ↦ inl (sym (exact_own p (get_or places i d) here))
   | inr other ↦ inr (ap (λ (b : Bool). b || stands (drop (i + 1) places) p) (sym other) ∙ ap (λ (l : List OwnPlace). stands l p) (sym (drop_more places i d inside)) ∙ has)
 ]
 
@@ -81,7 +81,7 @@ pub left_behind : (old : List OwnPlace) (page : ℕ) (p : OwnPlace)
     → stands (filter (λ x. nat_lt page (x.first + own_pages x)) old) p ≡ (nat_lt page (p.first + own_pages p) && stands old p)
 left_behind old page p =
     any-filter_same (is_at (place_cmp p)) (λ x. nat_lt page (x.first + own_pages x)) (nat_lt page (p.first + own_pages p))
-    (λ x same. ap (λ (y : OwnPlace). nat_lt page (y.first + own_pages y)) (sym (exact_place p x same))) old
+    (λ x same. ap (λ (y : OwnPlace). nat_lt page (y.first + own_pages y)) (sym (exact_own p x same))) old
 
 module _ (places : List OwnPlace) (page : ℕ) where
   -- without those that lie before the page
