@@ -2,6 +2,7 @@
 use Rattle.std.specs.Prelude.{ℕ, ◌<◌, ◌*◌, ◌==◌, nat_lt, Result, Ok, Err, if◌then◌else◌}
 use Rattle.mapdb_fpage.specs.Bounds.{page_bytes}
 use Rattle.mapdb_fpage.specs.RightSets.{bits_of}
+use Rattle.mapdb_facts.specs.NameWords.{saturated_name}
 use Rattle.mapdb_facts.specs.Names.{processor_limit}
 use Rattle.mapdb_facts.specs.declared.names.RecordId.{RecordId}
 use Rattle.mapdb_facts.specs.declared.names.Space.{Space}
@@ -15,10 +16,11 @@ use Rattle.mapdb_c.specs.declared.raw_places.RawSpace.{RawSpace}
 use Rattle.mapdb_c.specs.declared.statuses.Status.{Status}
 use Rattle.mapdb_c.specs.declared.statuses.Status.TheVariants as status
 
--- the name of a record, whose processor is one
+-- the name of a record, whose processor is one; a number that is too great for a name counts as the
+-- greatest, which is none of a record either
 abbrev pub name_given : ℕ → ℕ → Result RecordId Status
 name_given number processor =
-    if nat_lt processor processor_limit then Ok (record { number = number; processor = processor })
+    if nat_lt processor processor_limit then Ok (saturated_name number processor)
     else Err status.BadProcessor
 
 -- what an operation of the kind of records says

@@ -60,10 +60,7 @@ fn name_of(number: u64, processor: u32) -> Result<RecordId, Status>
     if processor >= PROCESSOR_LIMIT as u32 {
         return Err(Status::BadProcessor);
     }
-    Ok(RecordId {
-        number,
-        processor: processor as u8,
-    })
+    Ok(RecordId::saturating(number, processor as u8))
 }
 
 /// The record of an operation of this kind.
@@ -130,13 +127,13 @@ fn written_record(mapping: &Record) -> RawOperation
     RawOperation {
         kind: RECORD,
         rights: mapping.rights.bits() as u32,
-        number: mapping.id.number,
-        parent_number: mapping.parent.number,
+        number: mapping.id.number(),
+        parent_number: mapping.parent.number(),
         address: mapping.place.first_page() * PAGE_BYTES,
         source: mapping.source,
         space: raw_space(mapping.space),
-        processor: mapping.id.processor as u32,
-        parent_processor: mapping.parent.processor as u32,
+        processor: mapping.id.processor() as u32,
+        parent_processor: mapping.parent.processor() as u32,
         order: mapping.place.order() as u32,
         reserved: 0,
     }
@@ -152,12 +149,12 @@ fn written_revocation(cut: &Revocation) -> RawOperation
     RawOperation {
         kind: REVOCATION,
         rights: cut.rights.bits() as u32,
-        number: cut.target.number,
+        number: cut.target.number(),
         parent_number: 0,
         address: cut.part.first_page() * PAGE_BYTES,
         source: 0,
         space: raw_space(Space::FIRST),
-        processor: cut.target.processor as u32,
+        processor: cut.target.processor() as u32,
         parent_processor: 0,
         order: cut.part.order() as u32,
         reserved: 0,

@@ -62,20 +62,20 @@ fn part_taken(place: u64) -> Taken
 }
 
 /// What is told of a batch that was not taken, or not all of it.
-fn take_fault_told(fault: TakeFault) -> Taken
-    ensures { result ≡ take_fault_told fault }
+fn take_fault_told(fault: &TakeFault) -> Taken
+    ensures { result ≡ take_fault_told fault.now }
 {
     match fault {
-        TakeFault::Bad(place, _) => part_taken(place as u64),
+        TakeFault::Bad(place, _) => part_taken(*place as u64),
         TakeFault::Clash(id) => Taken {
             count: 0,
             place: 0,
-            number: id.number,
-            processor: id.processor as u32,
+            number: id.number(),
+            processor: id.processor() as u32,
             reserved: 0,
         },
         TakeFault::Full => taken_with(0),
-        TakeFault::Memory { taken } => part_taken(taken as u64),
+        TakeFault::Memory { taken } => part_taken(*taken as u64),
     }
 }
 
@@ -102,7 +102,7 @@ pub fn take_at(replica: &mut Replica, batch: &[Op], taken: &mut Taken) -> Status
             Status::Done
         }
         Err(fault) => {
-            *taken = take_fault_told(fault);
+            *taken = take_fault_told(&fault);
             take_status(fault)
         }
     }

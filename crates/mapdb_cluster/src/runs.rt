@@ -46,6 +46,8 @@ impl Cluster {
         ensures done { OnOk result (self.new ≡ after self.old (all_done events.now)) }
         ensures err { IfErr result (StopsAt self.old events.now self.new) }
     {
+        // The list of replies is lent: this tells the prover which types a reply may hold.
+        let _held: (Option<Refusal>, Option<TakeFault>) = (None, None);
         let mut replies = Vec::new(self.alloc);
         for (done, event) in events.iter().enumerate() {
             if replies.reserve(1).is_err() {

@@ -4,9 +4,10 @@ ghost use Rattle.std.specs.Prelude.{◌≡◌, ◌⊎◌, ◌++◌, [], None, le
 ghost use Rattle.mapdb_exchange.specs.Faults.{IsFirstFault, listed, missing};
 ghost use Rattle.mapdb_exchange.specs.Workers.{faults_of};
 
-use crate::faults::{Unstarted, WorkFault, first_fault};
+use crate::faults::{NodeFault, Unstarted, WorkFault, first_fault};
 use crate::workers::{Ended, Post, work};
 use mapdb_node::{Gate, Seat};
+use mapdb_replica::TakeFault;
 use std::alloc::{AllocError, Global};
 use std::sync::Wait;
 use std::thread;
@@ -93,6 +94,8 @@ pub(crate) fn seats_of(alloc: Global, ends: Ends) -> Result<Vec<Seat>, WorkFault
         ≡ []) }
     ensures seats { IfOk result (λ seats. seats.items ≡ map (λ e. e.seat) ends.ended.items) }
 {
+    // The list of faults is lent: this tells the prover which types a fault may hold.
+    let _held: (Option<NodeFault>, Option<TakeFault>) = (None, None);
     let Ends { ended, unstarted } = ends;
     let mut seats = Vec::with_capacity(alloc, ended.len())?;
     let mut faults = Vec::new(alloc);
@@ -118,6 +121,8 @@ fn missing(unstarted: Option<Unstarted>) -> Option<WorkFault>
 fn put_fault(faults: &mut Vec<WorkFault>, fault: Option<WorkFault>) -> Result<(), AllocError>
     ensures { OnOk result (faults.new.items ≡ faults.old.items ++ listed fault) }
 {
+    // As above.
+    let _held: (Option<NodeFault>, Option<TakeFault>) = (None, None);
     if let Some(fault) = fault {
         faults.push(fault)?;
     }

@@ -9,11 +9,12 @@ use Rattle.mapdb_facts.specs.declared.operations.Op.{Op}
 use Rattle.mapdb_facts.specs.declared.operations.Op.TheVariants.{Born, Closed, Cut}
 use Rattle.mapdb_facts.specs.Exact.{exact_id, exact_space}
 use Rattle.mapdb_facts.specs.ExactOps.{exact_op, same_op}
-use Rattle.mapdb_facts.specs.Names.{processor_limit, same_id, same_space}
+use Rattle.mapdb_facts.specs.NameWords.{name_word}
+use Rattle.mapdb_facts.specs.Names.{same_id, same_space}
 
--- a name as one word
+-- a name as the one word that it is kept as
 abbrev pub id_word : RecordId → ℕ
-id_word id = (id.number * processor_limit % 2 ^ 64 + id.processor) % 2 ^ 64
+id_word id = name_word id.number id.processor
 
 -- a space as one word
 abbrev pub space_word : Space → ℕ

@@ -5,7 +5,7 @@ use Rattle.std.specs.Global.{Vec}
 use Rattle.std.specs.BTreeMap.{is_at}
 use Rattle.std.specs.Map.{lookup}
 use Rattle.mapdb_facts.specs.Kept.{id_cmp}
-use Rattle.mapdb_facts.specs.Names.{processor_limit}
+use Rattle.mapdb_facts.specs.Names.{number_limit, processor_limit}
 use Rattle.mapdb_facts.specs.declared.names.RecordId.{RecordId}
 use Rattle.mapdb_facts.specs.NamedValues.{place_of}
 use Rattle.mapdb_facts.specs.declared.name_places.NamePlaces.{NamePlaces}
@@ -25,9 +25,13 @@ place_in places id =
     if near_word places.near.items id == 0 then lookup (is_at (id_cmp id)) places.far.entries
     else Some (near_word places.near.items id - 1)
 
--- there are lists of near names for processors below the limit alone
+-- no list goes on to a number at the limit
+abbrev pub AreShort : List (Vec ℕ) → Type 0
+AreShort near = (p : ℕ) → length (words_in (slice_get near p)) ≤ number_limit
+
+-- there are lists of near names for processors below the limit alone, and for numbers below theirs
 abbrev pub HaveFewLists : List (Vec ℕ) → Type 0
-HaveFewLists near = length near ≤ processor_limit
+HaveFewLists near = (length near ≤ processor_limit) × AreShort near
 
 -- each name has the place at which it stands, and no other has one
 pub record ArePlacesOf (places : NamePlaces) (names : List RecordId) : Type 0 where

@@ -3,7 +3,7 @@ use Rattle.std.specs.Prelude.{ℕ, ◌+◌, ◌-◌, ◌*◌, ◌/◌, ◌%◌, 
 use Rattle.std.specs.Prelude.{if◌then◌else◌, bit_and}
 use Rattle.std.specs.Int.{w64, from_le_bytes}
 use Rattle.mapdb_facts.specs.declared.op_hashing.OpHasher.{OpHasher}
-use Rattle.mapdb_facts.specs.Names.{processor_limit}
+use Rattle.mapdb_facts.specs.NameWords.{processor_numbers}
 
 -- nothing was fed
 abbrev pub initial : OpHasher
@@ -34,7 +34,7 @@ written hasher bytes = record {
 
 -- the lowest two bits of a record's number, in its name as one word
 abbrev pub near_bits : ℕ
-near_bits = 3 * processor_limit
+near_bits = 3 * processor_numbers
 
 -- 24 bits for a group, by all of the state but the near bits, and 8 bits to compare, by all of it
 abbrev pub finish : OpHasher → ℕ

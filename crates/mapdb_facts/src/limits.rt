@@ -10,3 +10,9 @@ pub const PROCESSOR_LIMIT: u8 = 64;
 /// name may lie. It is this great since operations may come in any order, and each list of near
 /// names may be as long.
 pub(crate) const NEAR_NUMBERS: u64 = 16_384;
+
+/// So many numbers has a byte, as which a name has its processor.
+pub(crate) const PROCESSOR_NUMBERS: u64 = 1 << 8;
+
+/// The numbers of names lie below this. Those of well-formed operations lie far below it.
+pub const NAME_NUMBERS: u64 = 1 << 56;

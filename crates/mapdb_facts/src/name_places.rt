@@ -3,11 +3,11 @@
 
 ghost use Rattle.std.specs.Prelude.{◌≡◌, ◌==◌, ◌+◌, ◌*◌, ◌<◌, ◌≤◌, ◌^◌, ℕ, None, Some, IfSome, max};
 ghost use Rattle.std.specs.Prelude.{OnErr, OnOk, if◌then◌else◌, slice_index, vec_len};
-ghost use Rattle.mapdb_facts.specs.Names.{processor_limit, same_id};
+ghost use Rattle.mapdb_facts.specs.Names.{number_limit, processor_limit, same_id};
 ghost use Rattle.mapdb_facts.specs.declared.names.RecordId.{RecordId};
 ghost use Rattle.mapdb_facts.specs.NamePlaces.{HaveFewLists, near_word, place_in};
 
-use crate::limits::{NEAR_NUMBERS, PROCESSOR_LIMIT};
+use crate::limits::{NEAR_NUMBERS, NUMBER_LIMIT, PROCESSOR_LIMIT};
 use crate::names::RecordId;
 use std::alloc::{AllocError, Global};
 use std::collections::BTreeMap;
@@ -27,8 +27,8 @@ pub struct NamePlaces {
 pub(crate) fn near_word(near: &[Vec<u32>], id: RecordId) -> u32
     ensures { result ≡ near_word near.now id }
 {
-    match near.get(id.processor as usize) {
-        Some(words) => match words.get(id.number as usize) {
+    match near.get(id.processor() as usize) {
+        Some(words) => match words.get(id.number() as usize) {
             Some(word) => *word,
             None => 0,
         },
@@ -42,13 +42,14 @@ pub(crate) fn near_word(near: &[Vec<u32>], id: RecordId) -> u32
 #[inline(always)]
 fn word_for(id: RecordId, at: usize, expected: usize) -> Option<u32>
     ensures word { IfSome result (λ word. word ≡ at + 1) }
-    ensures number { IfSome result (λ _. id.number + 1 < 2 ^ 64) }
+    ensures number { IfSome result (λ _. id.number < number_limit) }
     ensures processor { IfSome result (λ _. id.processor < processor_limit) }
     ensures near { IfSome result (λ _. id.number < 2 * (max at expected) + NEAR_NUMBERS) }
 {
     let names = at.max(expected) as u64;
     let limit = names.saturating_mul(2).saturating_add(NEAR_NUMBERS);
-    if id.processor < PROCESSOR_LIMIT && id.number < limit && at < u32::MAX as usize {
+    let limit = limit.min(NUMBER_LIMIT);
+    if id.processor() < PROCESSOR_LIMIT && id.number() < limit && at < u32::MAX as usize {
         return Some(at as u32 + 1);
     }
     None
@@ -72,8 +73,9 @@ fn reach(near: &mut Vec<Vec<u32>>, alloc: Global, processor: u8) -> Result<(), A
 /// memory ran out.
 #[inline(always)]
 fn lengthen(words: &mut Vec<u32>, number: usize) -> Result<(), AllocError>
-    requires { number + 1 < 2 ^ 64 }
+    requires { number < number_limit }
     ensures reached { OnOk result (number < vec_len words.new) }
+    ensures short { vec_len words.old ≤ number_limit → vec_len words.new ≤ number_limit }
     ensures same { (n : ℕ) → slice_index words.new.items n ≡ slice_index words.old.items n }
 {
     if number < words.len() {
@@ -85,7 +87,8 @@ fn lengthen(words: &mut Vec<u32>, number: usize) -> Result<(), AllocError>
 /// Writes a word of the list of a processor. An error where memory ran out.
 #[inline(always)]
 fn put_word(words: &mut Vec<u32>, number: usize, word: u32) -> Result<(), AllocError>
-    requires { number + 1 < 2 ^ 64 }
+    requires { number < number_limit }
+    ensures short { vec_len words.old ≤ number_limit → vec_len words.new ≤ number_limit }
     ensures ok { OnOk result ((n : ℕ) → slice_index words.new.items n
         ≡ (if number == n then word else slice_index words.old.items n)) }
     ensures err { OnErr result ((n : ℕ) → slice_index words.new.items n
@@ -109,7 +112,7 @@ fn put_near(
     id: RecordId,
     word: u32,
 ) -> Result<(), AllocError>
-    requires number { id.number + 1 < 2 ^ 64 }
+    requires number { id.number < number_limit }
     requires processor { id.processor < processor_limit }
     ensures few { HaveFewLists near.old.items → HaveFewLists near.new.items }
     ensures ok { OnOk result ((q : RecordId) → near_word near.new.items q
@@ -117,8 +120,12 @@ fn put_near(
     ensures err { OnErr result ((q : RecordId) → near_word near.new.items q
         ≡ near_word near.old.items q) }
 {
-    reach(near, alloc, id.processor)?;
-    put_word(&mut near[id.processor as usize], id.number as usize, word)
+    reach(near, alloc, id.processor())?;
+    put_word(
+        &mut near[id.processor() as usize],
+        id.number() as usize,
+        word,
+    )
 }
 
 impl NamePlaces {

@@ -7,10 +7,13 @@ ghost use Rattle.std.specs.BTreeMap.Range.{IsLeBy};
 ghost use Rattle.std.specs.Map.{lookup};
 ghost use Rattle.mapdb_join.specs.Keys.{IsAbove};
 ghost use Rattle.mapdb_facts.specs.Kept.{id_cmp};
-ghost use Rattle.mapdb_facts.specs.NamePlaces.{HaveFewLists, IsFrom, near_word, place_in, words_in};
+ghost use Rattle.mapdb_facts.specs.Names.{processor_limit};
+ghost use Rattle.mapdb_facts.specs.NamePlaces.{AreShort, HaveFewLists, IsFrom, near_word, place_in};
+ghost use Rattle.mapdb_facts.specs.NamePlaces.{words_in};
 ghost use Rattle.mapdb_facts.specs.declared.names.RecordId.{RecordId};
 ghost use Rattle.std.specs.declared.cmp.Ordering.TheVariants.{Less};
 
+use crate::limits::{NAME_NUMBERS, NUMBER_LIMIT};
 use crate::name_places::{NamePlaces, near_word};
 use crate::names::RecordId;
 use std::collections::BTreeMap;
@@ -18,7 +21,8 @@ use std::ops::Bound;
 
 /// The near name of a number with the least processor, from one on.
 fn near_with(near: &[Vec<u32>], number: u64, first: usize) -> Option<RecordId>
-    requires few { HaveFewLists near.now }
+    requires few { length near.now ≤ processor_limit }
+    requires number { number < NAME_NUMBERS }
     ensures none { MatchOption result ((p : ℕ) → first ≤ p
         → near_word near.now (record { number = number; processor = p }) ≡ 0) (λ _. Unit {0}) }
     ensures found { IfSome result (λ id. (id.number ≡ number) × (first ≤ id.processor)
@@ -29,7 +33,7 @@ fn near_with(near: &[Vec<u32>], number: u64, first: usize) -> Option<RecordId>
     let mut at = first;
     while at < near.len() {
         let processor = at as u8;
-        let id = RecordId { number, processor };
+        let id = RecordId::new(number, processor);
         if near_word(near, id) != 0 {
             return Some(id);
         }
@@ -52,20 +56,23 @@ fn longest(near: &[Vec<u32>]) -> usize
 /// Where a walk over near names ends: behind the longest list, or behind the number of the far name
 /// that comes next. Otherwise a gap between near names would be gone through once for each far name
 /// in it.
-fn walk_end(near: &[Vec<u32>], far: Option<RecordId>) -> u64
-    ensures { (q : RecordId) → result ≤ q.number → (near_word near.now q ≡ 0)
-        ⊎ (IsSome far × IfSome far (λ id. IsLeBy id_cmp id q)) }
+fn walk_end(near: &[Vec<u32>], far: &Option<RecordId>) -> u64
+    requires { AreShort near.now }
+    ensures limit { result ≤ NUMBER_LIMIT }
+    ensures behind { (q : RecordId) → result ≤ q.number → (near_word near.now q ≡ 0)
+        ⊎ (IsSome far.now × IfSome far.now (λ id. IsLeBy id_cmp id q)) }
 {
-    let end = longest(near) as u64;
+    let end = NUMBER_LIMIT.min(longest(near) as u64);
     match far {
-        Some(id) if id.number < end => id.number + 1,
+        Some(id) if id.number() < end => id.number() + 1,
         _ => end,
     }
 }
 
 /// The least near name from a number and one of its processors on, below an end of the numbers.
 fn near_from(near: &[Vec<u32>], number: u64, first: usize, end: u64) -> Option<RecordId>
-    requires few { HaveFewLists near.now }
+    requires few { length near.now ≤ processor_limit }
+    requires end { end ≤ NUMBER_LIMIT }
     ensures none { MatchOption result ((q : RecordId) → IsFrom number first q → q.number < end
         → near_word near.now q ≡ 0) (λ _. Unit {0}) }
     ensures found { IfSome result (λ id. IsFrom number first id × (near_word near.now id ≢ 0)) }
@@ -86,7 +93,8 @@ fn near_from(near: &[Vec<u32>], number: u64, first: usize, end: u64) -> Option<R
 
 /// The least near name above another, or of all, below an end of the numbers.
 fn near_above(near: &[Vec<u32>], after: Option<RecordId>, end: u64) -> Option<RecordId>
-    requires few { HaveFewLists near.now }
+    requires few { length near.now ≤ processor_limit }
+    requires end { end ≤ NUMBER_LIMIT }
     ensures none { MatchOption result ((q : RecordId) → IsAbove id_cmp after q → q.number < end
         → near_word near.now q ≡ 0) (λ _. Unit {0}) }
     ensures found { IfSome result (λ id. IsAbove id_cmp after id × (near_word near.now id ≢ 0)) }
@@ -94,7 +102,7 @@ fn near_above(near: &[Vec<u32>], after: Option<RecordId>, end: u64) -> Option<Re
         → near_word near.now q ≢ 0 → IsLeBy id_cmp id q) }
 {
     match after {
-        Some(id) => near_from(near, id.number, id.processor as usize + 1, end),
+        Some(id) => near_from(near, id.number(), id.processor() as usize + 1, end),
         None => near_from(near, 0, 0, end),
     }
 }
@@ -130,16 +138,16 @@ fn far_after(far: &BTreeMap<RecordId, usize>, after: RecordId) -> Option<RecordI
 }
 
 /// The least far name above another, or of all.
-fn far_above(far: &BTreeMap<RecordId, usize>, after: Option<RecordId>) -> Option<RecordId>
-    ensures none { MatchOption result ((q : RecordId) → IsAbove id_cmp after q
+fn far_above(far: &BTreeMap<RecordId, usize>, after: &Option<RecordId>) -> Option<RecordId>
+    ensures none { MatchOption result ((q : RecordId) → IsAbove id_cmp after.now q
         → lookup (is_at (id_cmp q)) far.now.entries ≡ None) (λ _. Unit {0}) }
-    ensures found { IfSome result (λ id. IsAbove id_cmp after id
+    ensures found { IfSome result (λ id. IsAbove id_cmp after.now id
         × IsSome (lookup (is_at (id_cmp id)) far.now.entries)) }
-    ensures least { IfSome result (λ id. (q : RecordId) → IsAbove id_cmp after q
+    ensures least { IfSome result (λ id. (q : RecordId) → IsAbove id_cmp after.now q
         → IsSome (lookup (is_at (id_cmp q)) far.now.entries) → IsLeBy id_cmp id q) }
 {
     match after {
-        Some(id) => far_after(far, id),
+        Some(id) => far_after(far, *id),
         None => first_far(far),
     }
 }
@@ -172,8 +180,8 @@ impl NamePlaces {
             → IsSome (place_in self.now q) → IsLeBy id_cmp id q) }
     {
         let lists = self.near.as_slice();
-        let far = far_above(&self.far, after);
-        let near = near_above(lists, after, walk_end(lists, far));
-        lesser(near, far)
+        let far = far_above(&self.far, &after);
+        let end = walk_end(lists, &far);
+        lesser(near_above(lists, after, end), far)
     }
 }

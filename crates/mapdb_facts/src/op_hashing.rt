@@ -3,14 +3,14 @@
 ghost use Rattle.std.specs.Prelude.{◌≡◌, length};
 ghost use Rattle.mapdb_facts.specs.OpHashing.{after_bytes, after_word, little_endian, product};
 
-use crate::limits::PROCESSOR_LIMIT;
+use crate::limits::PROCESSOR_NUMBERS;
 use std::hash::Hasher;
 
 /// The product of a word with this odd number has what the whole word says in its highest bits.
 const MULTIPLIER: u64 = 0x9e37_79b9_7f4a_7c15;
 
 /// The lowest two bits of a record's number, in its name as one word.
-const NEAR_BITS: u64 = 3 * PROCESSOR_LIMIT as u64;
+const NEAR_BITS: u64 = 3 * PROCESSOR_NUMBERS;
 
 /// A hasher of operations, for an `indexmap` table: its entries stand in groups, and the lowest
 /// bits of a hash say which group, and bits 24 to 31 are compared there. Four records of one

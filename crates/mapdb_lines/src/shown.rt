@@ -25,9 +25,9 @@ pub fn push_number(text: &mut String, number: u64) -> Result<(), AllocError>
 pub fn push_name(text: &mut String, id: RecordId) -> Result<(), AllocError>
     ensures { OnOk result (string_bytes text.new ≡ string_bytes text.old ++ name_text id) }
 {
-    push_number(text, id.number)?;
+    push_number(text, id.number())?;
     text.push('.')?;
-    push_number(text, id.processor as u64)
+    push_number(text, id.processor() as u64)
 }
 
 /// The name of a record. The only error is that memory ran out.

@@ -2,9 +2,8 @@
 
 use crate::change_lists::{any_rights, end_at, last_at, list_last, list_next, map_of, spot_of};
 use crate::changes::{Change, Stretch};
-use crate::limits::RIGHT_SETS;
 use crate::list_writes::{list_begin, list_write};
-use mapdb_fpage::{PAGE_LIMIT, Rights};
+use mapdb_fpage::{PAGE_LIMIT, RIGHT_SETS, Rights};
 use smallvec::SmallVec;
 use std::alloc::{AllocError, Global};
 use std::collections::BTreeMap;
@@ -19,16 +18,16 @@ pub struct PageRights {
 }
 
 impl Model for PageRights {
-    ghost use Rattle.mapdb_lists.specs.PageWords.{PageWithRights, page_word, page_word_comes_back};
-    ghost use Rattle.mapdb_lists.specs.PageWords.{with_rights};
+    ghost use Rattle.mapdb_lists.specs.PageWords.{PageWithRights, change_in, change_word};
+    ghost use Rattle.mapdb_lists.specs.PageWords.{change_word_comes_back};
 
     ghost Value = { PageWithRights };
 
-    ghost view = { λ p. with_rights p.word };
+    ghost view = { λ p. change_in p.word };
 
-    ghost inverse = { λ p. record { word = page_word p.page p.rights } };
+    ghost inverse = { λ p. record { word = change_word p.page p.rights } };
 
-    ghost inverse_ok = { λ p _ i. record { word = page_word_comes_back p.word i } };
+    ghost inverse_ok = { λ p _ i. record { word = change_word_comes_back p.word i } };
 }
 
 impl PageRights {

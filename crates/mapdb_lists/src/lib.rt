@@ -7,7 +7,7 @@
 //! # A use
 //!
 //! ```
-//! let id = RecordId { number: 1, processor: 0 };
+//! let id = RecordId::new(1, 0);
 //! let mut changes = AllChanges::new(rt.alloc());
 //! let all = Change { rights: Rights::ALL, shift: PAGE_LIMIT };
 //! replace(&mut changes, id, 0x40, 0x44, all)?;

@@ -16,9 +16,5 @@ pub(crate) const SOME_PLACES: usize = 256;
 /// For each order below this there is a bit.
 pub(crate) const ORDER_LIMIT: u8 = 64;
 
-/// How many sets of rights there are: the word of a page with rights is so many times the page, and
-/// the bits of the rights.
-pub(crate) const RIGHT_SETS: u64 = 8;
-
 /// First pages of places lie below this: a place's order and first page are one number.
 pub const FIRST_LIMIT: u64 = 1 << 56;

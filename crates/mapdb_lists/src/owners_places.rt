@@ -102,12 +102,12 @@ impl OwnersPlaces {
 
     /// The places of an owner, where it has some.
     #[inline(always)]
-    pub(crate) fn get(&self, owner: Owner) -> Option<&OwnPlaces>
-        ensures { option_copied result ≡ lookup (same_owner owner) self.now.entries }
+    pub(crate) fn get(&self, owner: &Owner) -> Option<&OwnPlaces>
+        ensures { option_copied result ≡ lookup (same_owner owner.now) self.now.entries }
     {
         match owner {
-            Owner::Record(id) => self.records.get(id),
-            Owner::Space(space) => self.spaces.get(space),
+            Owner::Record(id) => self.records.get(*id),
+            Owner::Space(space) => self.spaces.get(*space),
         }
     }
 

@@ -123,7 +123,7 @@ impl Places {
     pub fn own(&self, owner: Owner) -> Option<&OwnPlaces>
         ensures { places_in (option_copied result) ≡ owner_places self.now owner }
     {
-        self.own.get(owner)
+        self.own.get(&owner)
     }
 
     /// The least entry of its owner from one on.
@@ -131,7 +131,7 @@ impl Places {
         requires { from.first < FIRST_LIMIT }
         ensures { IsFirstInside self.now from.owner (Included from) result }
     {
-        match self.own.get(from.owner) {
+        match self.own.get(&from.owner) {
             Some(own) => listed_for(from.owner, own.first_from(from.own_place())),
             None => None,
         }
@@ -142,7 +142,7 @@ impl Places {
         requires { after.first < FIRST_LIMIT }
         ensures { IsFirstInside self.now after.owner (Excluded after) result }
     {
-        match self.own.get(after.owner) {
+        match self.own.get(&after.owner) {
             Some(own) => listed_for(after.owner, own.first_above(after.own_place())),
             None => None,
         }
@@ -162,7 +162,7 @@ impl Places {
         requires near { IfSome after (λ e. e.first < FIRST_LIMIT) }
         ensures { IsNextMeeting self.now owner first end after result }
     {
-        match self.own.get(owner) {
+        match self.own.get(&owner) {
             Some(own) => listed_for(owner, own.next_meeting(first, end, place_of(after))),
             None => None,
         }

@@ -47,10 +47,10 @@ fn found_of_unmap(copy: &mut Replica, last: &Command, wanted: &Replica) -> Found
 /// A record but for its name, whose number is greater by so much.
 fn renumbered(record: &Record, more: u32) -> Record {
     Record {
-        id: RecordId {
-            number: record.id.number.saturating_add(u64::from(more)),
-            processor: record.id.processor,
-        },
+        id: RecordId::saturating(
+            record.id.number().saturating_add(u64::from(more)),
+            record.id.processor(),
+        ),
         ..*record
     }
 }

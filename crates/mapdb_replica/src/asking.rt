@@ -66,7 +66,7 @@ pub(crate) fn next_live(
     requires { KeepsUp index.now (state_of_facts facts.now) }
     ensures { IsLiveFrom (state_of_facts facts.now) space page after result }
 {
-    match index.live_at(facts, space, page, after) {
+    match index.live_at(facts, space, page, &after) {
         Some(found) => found,
         None => live_after(facts, space, page, after),
     }

@@ -12,8 +12,8 @@ use mapdb_facts::{Facts, Record, RecordId, Space};
 
 /// Whether the root comes: it is one of the space, has a right at the page, and nothing stands
 /// before it.
-fn root_comes(facts: &Facts, space: Space, page: u64, after: Option<RecordId>) -> bool
-    ensures { result ≡ (is_after after root && is_first_space space
+fn root_comes(facts: &Facts, space: Space, page: u64, after: &Option<RecordId>) -> bool
+    ensures { result ≡ (is_after after.now root && is_first_space space
         && not (is_empty (rights_at (state_of_facts facts.now) root page))) }
 {
     after.is_none() && space.is_first() && !rights_of(facts, RecordId::ROOT, page).is_none()
@@ -53,7 +53,7 @@ pub fn live_after(
 ) -> Option<RecordId>
     ensures { IsLiveFrom (state_of_facts facts.now) space page after result }
 {
-    if root_comes(facts, space, page, after) {
+    if root_comes(facts, space, page, &after) {
         return Some(RecordId::ROOT);
     }
     record_after(facts, space, page, after)

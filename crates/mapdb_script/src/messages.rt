@@ -93,7 +93,7 @@ impl ScriptCluster {
         let known = known_after(mark, sending, taken.is_ok());
         let other = sending.sender;
         note(&mut self.marks, Mark { at, other, known });
-        Reply::taken(taken)
+        Reply::taken(&taken)
     }
 
     /// Brings a message to a processor, whose copy takes its operations.
@@ -121,7 +121,7 @@ impl ScriptCluster {
             return Ok(Reply::Refused(Refusal::NoProcessor));
         };
         if into == from {
-            return Reply::taken(Ok(0));
+            return Reply::taken(&Ok(0));
         }
         let all = Sending {
             sender: from,

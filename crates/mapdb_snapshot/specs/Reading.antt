@@ -10,6 +10,7 @@ use Rattle.mapdb_fpage.specs.Place.{Place}
 use Rattle.mapdb_fpage.specs.RightSets.{rights_of_bits}
 use Rattle.mapdb_fpage.specs.declared.places.FpageFault.{FpageFault}
 use Rattle.mapdb_fpage.specs.declared.right_sets.Rights.{Rights}
+use Rattle.mapdb_facts.specs.NameWords.{saturated_name}
 use Rattle.mapdb_facts.specs.declared.names.RecordId.{RecordId}
 use Rattle.mapdb_facts.specs.declared.names.Space.{Space}
 use Rattle.mapdb_facts.specs.declared.operations.Op.{Op}
@@ -62,12 +63,13 @@ rights_read place row = do
   bits ← number_at place 8 row
   or_shape (rights_of_bits bits)
 
--- the name whose number and processor stand from this place on
+-- the name whose number and processor stand from this place on; a number that is too great for a
+-- name counts as the greatest, which is none of a record either
 abbrev pub name_at : ℕ → Items → Result RecordId SnapshotFault
 name_at place row = do
   number ← number_at place (2 ^ 64) row
   processor ← number_at (place + 1) 256 row
-  Ok (record { number = number; processor = processor })
+  Ok (saturated_name number processor)
 
 -- the version of a space at a place of a row; the first where rows have none
 abbrev pub version_at : Form → ℕ → Items → Result ℕ SnapshotFault

@@ -9,7 +9,7 @@ ghost use Rattle.mapdb_snapshot.specs.Snapshot.{cut_row, ended_row, record_row};
 ghost use Rattle.serde_json.specs.Written.{compact_text};
 
 use crate::scanning::{byte, number_before};
-use mapdb_facts::{Record, RecordId, Revocation, Space};
+use mapdb_facts::{NAME_NUMBERS, Record, RecordId, Revocation, Space};
 use mapdb_fpage::{Fpage, PAGE_BYTES, PAGE_LIMIT, Rights};
 
 /// The name that stands there, with a comma behind it.
@@ -18,12 +18,9 @@ fn name(text: &[u8], at: &mut usize) -> Option<RecordId>
         ≡ decimal id.number ++ 44 ∷ (decimal id.processor ++ 44 ∷ drop at.new text.now)) }
     ensures is { IfSome result IsId }
 {
-    let number = number_before(text, at, u64::MAX, b',')?;
+    let number = number_before(text, at, NAME_NUMBERS - 1, b',')?;
     let processor = number_before(text, at, u64::from(u8::MAX), b',')?;
-    Some(RecordId {
-        number,
-        processor: processor as u8,
-    })
+    Some(RecordId::new(number, processor as u8))
 }
 
 /// The space that stands there, with this byte behind it.

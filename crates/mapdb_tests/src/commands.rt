@@ -11,10 +11,7 @@ pub fn space(number: u16) -> Space {
 
 /// The name of a record of processor 0.
 pub fn id(number: u64) -> RecordId {
-    RecordId {
-        number,
-        processor: 0,
-    }
+    RecordId::saturating(number, 0)
 }
 
 /// The rights of these bits, which are a set of rights.

@@ -2,7 +2,6 @@
 use Rattle.std.specs.Prelude.{◌≡◌, Bool, true, cond, ◌||◌, List, [], ◌∷◌, Option, Some, None, refl}
 use Rattle.std.proofs.Common.{sym, ◌∙◌, ap, inl, inr}
 use Rattle.std.specs.Option.{is_some}
-use Rattle.std.specs.Cmp.{IsTotalOrder, nat_cmp_total, on_total, then_total}
 use Rattle.std.specs.BTreeMap.{is_at}
 use Rattle.std.specs.List.{list_any}
 use Rattle.std.specs.Map.{lookup}
@@ -12,12 +11,10 @@ use Rattle.mapdb_join.proofs.Walking.{AreFound, Covered, any_entry, in_entry}
 use Rattle.mapdb_facts.specs.declared.names.RecordId.{RecordId}
 use Rattle.mapdb_facts.specs.ByName.{with_value, with_values}
 use Rattle.mapdb_facts.specs.Kept.{id_cmp}
+pub use Rattle.mapdb_facts.specs.NameOrders.{id_total}
 use Rattle.mapdb_facts.specs.Names.{same_id}
 use Rattle.mapdb_facts.proofs.Lists.Comparing.{exact_ids, id_at}
 use Rattle.mapdb_facts.proofs.Lists.SameNames.{same_id_itself}
-
-pub id_total : IsTotalOrder id_cmp
-id_total = then_total (on_total (λ (a : RecordId). a.number) nat_cmp_total) (on_total (λ (a : RecordId). a.processor) nat_cmp_total)
 
 -- names that compare alike are the same, so either test finds the same
 pub one_lookup : {V : Type 0} (entries : List (RecordId × V)) (id : RecordId) → lookup (is_at (id_cmp id)) entries ≡ lookup (same_id id) entries

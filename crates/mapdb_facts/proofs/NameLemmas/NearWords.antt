@@ -1,11 +1,11 @@
 -- The words of near names, where a list is added or a word is written.
-use Rattle.std.proofs.Common.{◌≡◌, ℕ, zero, suc, ◌<◌, List, [], ◌∷◌, length, set, get_or, refl, ap, sym, ◌∙◌, Bool, true, false, cond, inl, inr, arith}
-use Rattle.std.specs.Prelude.{◌==◌, ◌&&◌, slice_get, slice_index}
+use Rattle.std.proofs.Common.{◌≡◌, ℕ, zero, suc, ◌<◌, List, [], ◌∷◌, length, set, get_or, refl, ap, sym, subst, ◌∙◌, Bool, true, false, cond, inl, inr, arith}
+use Rattle.std.specs.Prelude.{◌==◌, ◌&&◌, ◌++◌, ◌≤◌, slice_get, slice_index}
 use Rattle.std.specs.Global.{Vec}
 use Rattle.std.proofs.lemmas.Bool.{and_right, cases_Bool, cond-false, eqb-false, eqb-true}
-use Rattle.mapdb_facts.specs.Names.{same_id}
+use Rattle.mapdb_facts.specs.Names.{number_limit, same_id}
 use Rattle.mapdb_facts.specs.declared.names.RecordId.{RecordId}
-use Rattle.mapdb_facts.specs.NamePlaces.{near_word, words_in}
+use Rattle.mapdb_facts.specs.NamePlaces.{AreShort, near_word, words_in}
 
 -- ---- an empty list more
 
@@ -63,3 +63,19 @@ module _ (near : List (Vec ℕ)) (was new : Vec ℕ) (id : RecordId)
     | inl e ↦ written_here q (eqb-true _ _ e) ∙ kept q.number ∙ sym (was_here q (eqb-true _ _ e))
     | inr e ↦ written_there q (eqb-false _ _ e)
   ]
+
+  -- no list is longer than the limit where none was
+  pub short_written : AreShort near → (length was.items ≤ number_limit → length new.items ≤ number_limit) → AreShort (set near id.processor new)
+  short_written short kept q = elim (cases_Bool (id.processor == q)) [
+    | inl e ↦
+        let was_short = subst (λ (n : List ℕ). length n ≤ number_limit) (words_was near id.processor was within is) (short id.processor) in
+        subst (λ (n : List ℕ). length n ≤ number_limit) (sym (words_here near new id.processor within) ∙ ap (λ p. words_in (slice_get (set near id.processor new) p)) (eqb-true _ _ e)) (kept was_short)
+    | inr e ↦ subst (λ (n : List ℕ). length n ≤ number_limit) (sym (words_there near new id.processor q (eqb-false _ _ e))) (short q)
+  ]
+
+-- an empty list more
+pub short_more : (near : List (Vec ℕ)) (empty : Vec ℕ) → empty.items ≡ [] → AreShort near → AreShort (near ++ empty ∷ [])
+short_more [] empty none short zero = subst (λ (n : List ℕ). length n ≤ number_limit) (sym none) (omega arith)
+short_more [] empty none short (suc p) = omega arith
+short_more (words ∷ near) empty none short zero = short zero
+short_more (words ∷ near) empty none short (suc p) = short_more near empty none (λ q. short (suc q)) p

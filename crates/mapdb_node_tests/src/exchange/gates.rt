@@ -1,9 +1,9 @@
 //! Exchanges whose calls pass a gate.
 
 use super::{ends, expect};
-use mapdb_exchange::{RunFault, run};
+use mapdb_exchange::{NodeFault, RunFault, run};
 use mapdb_node::{Gate, GateFault, Point};
-use mapdb_replica::Command;
+use mapdb_replica::{Command, TakeFault};
 use std::alloc::{AllocError, Global};
 use std::process::Abort;
 use std::sync::Wait;
@@ -70,6 +70,8 @@ fn fault_at<R: Abort + Threads + Wait + Sync, G: Gate + Sync>(
 /// held at once.
 #[test]
 fn two_processors_are_held_at_once(rt: HostRuntime) -> Result<(), Fail> {
+    // The gate is lent: this tells the prover which types the fault may hold.
+    let _held: (Option<NodeFault>, Option<TakeFault>) = (None, None);
     let meeting = Meeting {
         held: [AtomicU64::new(0), AtomicU64::new(0)],
     };

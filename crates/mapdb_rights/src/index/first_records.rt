@@ -51,16 +51,16 @@ fn both(other: RecordId, seen: Change, id: RecordId, change: Change) -> First
 
 impl First {
     /// With one record more.
-    pub(crate) fn with(self, id: RecordId, change: Change) -> First
-        ensures { result ≡ first_with id change self }
+    pub(crate) fn with(&self, id: RecordId, change: Change) -> First
+        ensures { result ≡ first_with id change self.now }
     {
         match self {
             First::Nothing => First::Alike(id, change),
             First::Alike(other, seen) if seen.shift == change.shift => {
-                both(other, seen, id, change)
+                both(*other, *seen, id, change)
             }
-            First::Alike(other, seen) => earlier_of(other, seen, id, change),
-            First::Mixed(other, seen) => earlier_of(other, seen, id, change),
+            First::Alike(other, seen) => earlier_of(*other, *seen, id, change),
+            First::Mixed(other, seen) => earlier_of(*other, *seen, id, change),
         }
     }
 }

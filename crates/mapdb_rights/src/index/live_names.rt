@@ -32,28 +32,32 @@ fn lesser(one: Option<RecordId>, other: Option<RecordId>) -> Option<RecordId>
 
 /// The first entry of a place's owner that stands at the place under a name above another, or
 /// behind the place.
-fn entry_after(live: &Places, place: Listed, after: Option<RecordId>) -> Option<Listed>
-    requires { place.first < FIRST_LIMIT }
-    ensures { IsFirstInside live.now place.owner (behind_name place after) result }
+fn entry_after(live: &Places, place: &Listed, after: Option<RecordId>) -> Option<Listed>
+    requires { place.now.first < FIRST_LIMIT }
+    ensures { IsFirstInside live.now place.now.owner (behind_name place.now after) result }
 {
     match after {
-        Some(id) => live.first_above(Listed { id, ..place }),
+        Some(id) => live.first_above(Listed { id, ..*place }),
         None => live.first_from(Listed {
             id: RecordId::ROOT,
-            ..place
+            ..*place
         }),
     }
 }
 
 /// The least name above another, or of all, that stands at the place.
-fn name_after(live: &Places, place: Listed, after: Option<RecordId>) -> Option<RecordId>
-    requires { place.first < FIRST_LIMIT }
-    ensures { IsLeastOf (StandsAt live.now place) (StandsAt live.now place) after result }
+fn name_after(live: &Places, place: &Listed, after: Option<RecordId>) -> Option<RecordId>
+    requires { place.now.first < FIRST_LIMIT }
+    ensures { IsLeastOf (StandsAt live.now place.now) (StandsAt live.now place.now) after result }
 {
-    match entry_after(live, place, after) {
-        Some(entry) if entry.order == place.order && entry.first == place.first => Some(entry.id),
-        _ => None,
+    let Some(entry) = entry_after(live, place, after) else {
+        return None;
+    };
+    if entry.order != place.order || entry.first != place.first {
+        return None;
     }
+    let id = entry.id;
+    Some(id)
 }
 
 /// Whether the name, which is that of a record into the space, has a right at the page.
@@ -80,16 +84,16 @@ fn shown_after(
     facts: &Facts,
     space: Space,
     page: u64,
-    place: Listed,
-    after: Option<RecordId>,
+    place: &Listed,
+    after: &Option<RecordId>,
 ) -> Option<RecordId>
     requires stands { Shows changes.now live.now (state_of_facts facts.now) }
-    requires owned { place.owner ≡ owners.Space space }
-    requires near { place.first < FIRST_LIMIT }
+    requires owned { place.now.owner ≡ owners.Space space }
+    requires near { place.now.first < FIRST_LIMIT }
     ensures { IsLeastOf (IsShown (state_of_facts facts.now) space page)
-        (IsShownAt live.now (state_of_facts facts.now) space page place) after result }
+        (IsShownAt live.now (state_of_facts facts.now) space page place.now) after.now result }
 {
-    let mut from = after;
+    let mut from = *after;
     'names: while let Some(id) = name_after(live, place, from) {
         if is_shown(changes, live, facts, space, page, id) {
             return Some(id);
@@ -107,10 +111,10 @@ fn root_comes(
     facts: &Facts,
     space: Space,
     page: u64,
-    after: Option<RecordId>,
+    after: &Option<RecordId>,
 ) -> bool
     requires { Shows changes.now live.now (state_of_facts facts.now) }
-    ensures { result ≡ (is_after after root && is_first_space space
+    ensures { result ≡ (is_after after.now root && is_first_space space
         && not (is_empty (rights_at (state_of_facts facts.now) root page))) }
 {
     after.is_none() && space.is_first() && !cached_at(changes, RecordId::ROOT, page).is_none()
@@ -123,11 +127,11 @@ fn root_after(
     facts: &Facts,
     space: Space,
     page: u64,
-    after: Option<RecordId>,
+    after: &Option<RecordId>,
 ) -> Option<RecordId>
     requires { Shows changes.now live.now (state_of_facts facts.now) }
     ensures { IsLeastOf (IsLive (state_of_facts facts.now) space page)
-        (IsLiveRoot (state_of_facts facts.now) space page) after result }
+        (IsLiveRoot (state_of_facts facts.now) space page) after.now result }
 {
     if root_comes(changes, live, facts, space, page, after) {
         Some(RecordId::ROOT)
@@ -160,12 +164,11 @@ pub(crate) fn live_after(
     requires { Shows changes.now live.now (state_of_facts facts.now) }
     ensures { IsLiveFrom (state_of_facts facts.now) space page after result }
 {
-    let owner = Owner::Space(space);
     let end = page.saturating_add(1);
-    let mut found = root_after(changes, live, facts, space, page, after);
+    let mut found = root_after(changes, live, facts, space, page, &after);
     let mut passed = None;
-    'orders: while let Some(entry) = live.next_meeting(owner, page, end, passed) {
-        let shown = shown_after(changes, live, facts, space, page, entry, after);
+    'orders: while let Some(entry) = live.next_meeting(Owner::Space(space), page, end, passed) {
+        let shown = shown_after(changes, live, facts, space, page, &entry, &after);
         found = lesser(found, shown);
         passed = Some(behind_order(entry));
     }

@@ -40,11 +40,10 @@ impl RightsIndex {
         if self.absent {
             return Ok(None);
         }
-        let owner = Owner::Space(space);
         let mut names = SmallVec::new(self.alloc);
-        add_names(&mut names, &self.live, owner, part)?;
-        add_names(&mut names, &self.listed, owner, part)?;
-        let found = all_sharing(self.alloc, &mut names, facts, owner, part)?;
+        add_names(&mut names, &self.live, Owner::Space(space), part)?;
+        add_names(&mut names, &self.listed, Owner::Space(space), part)?;
+        let found = all_sharing(self.alloc, &mut names, facts, Owner::Space(space), part)?;
         Ok(Some(found))
     }
 
@@ -69,10 +68,15 @@ impl RightsIndex {
         if self.absent {
             return Ok(None);
         }
-        let holder = Owner::Space(space);
-        let mut names = SmallVec::new(self.alloc);
-        add_names(&mut names, &self.live, holder, part)?;
-        let found = all_sharing(self.alloc, &mut names, facts, holder, part)?;
+        let mut found_names = SmallVec::new(self.alloc);
+        add_names(&mut found_names, &self.live, Owner::Space(space), part)?;
+        let found = all_sharing(
+            self.alloc,
+            &mut found_names,
+            facts,
+            Owner::Space(space),
+            part,
+        )?;
         Ok(Some(found))
     }
 
@@ -97,10 +101,9 @@ impl RightsIndex {
         if self.absent {
             return Ok(None);
         }
-        let parent = Owner::Record(parent);
         let mut names = SmallVec::new(self.alloc);
-        add_names(&mut names, &self.listed, parent, part)?;
-        let found = all_sharing(self.alloc, &mut names, facts, parent, part)?;
+        add_names(&mut names, &self.listed, Owner::Record(parent), part)?;
+        let found = all_sharing(self.alloc, &mut names, facts, Owner::Record(parent), part)?;
         Ok(Some(found))
     }
 }

@@ -24,16 +24,17 @@ impl RightsIndex {
         facts: &Facts,
         space: Space,
         page: u64,
-        after: Option<RecordId>,
+        after: &Option<RecordId>,
     ) -> Option<Option<RecordId>>
         requires { KeepsUp self.now (state_of_facts facts.now) }
         ensures absent { self.now.absent ≡ true → result ≡ None }
         ensures there { self.now.absent ≡ false → IsSome result }
-        ensures live { IfSome result (IsLiveFrom (state_of_facts facts.now) space page after) }
+        ensures live { IfSome result (IsLiveFrom (state_of_facts facts.now) space page after.now) }
     {
         if self.absent {
             return None;
         }
+        let after = *after;
         Some(live_after(&self.changes, &self.live, facts, space, page, after))
     }
 

@@ -18,20 +18,20 @@ use super::stale::Stale;
 use super::stepping::given_at;
 use mapdb_facts::{Facts, RecordId};
 use mapdb_fpage::PAGE_LIMIT;
-use mapdb_lists::{AllChanges, Places, replace};
+use mapdb_lists::{AllChanges, Change, Places, replace};
 use smallvec::SmallVec;
 use std::alloc::AllocError;
 
 /// Those of the pages that begin at the end of a run stay stale.
 #[inline(always)]
-fn keep_rest(stack: &mut SmallVec<Stale, 1>, stale: Stale, end: u64) -> Result<(), AllocError>
+fn keep_rest(stack: &mut SmallVec<Stale, 1>, stale: &Stale, end: u64) -> Result<(), AllocError>
     ensures pending { OnOk result ((id : RecordId) (page : ℕ) → IsPending stack.old.items id page
         → IsPending stack.new.items id page) }
     ensures rest { OnOk result ((id : RecordId) (page : ℕ)
-        → covers stale.id end stale.end id page ≡ true
+        → covers stale.now.id end stale.now.end id page ≡ true
         → IsPending stack.new.items id page) }
     ensures weight { OnOk result ((base : ℕ) → weight base stack.new.items
-        ≤ weight base stack.old.items + (1 + (stale.end - end) * worth base stale.id.number)) }
+        ≤ weight base stack.old.items + (1 + (stale.now.end - end) * worth base stale.now.id.number)) }
 {
     if end < stale.end {
         stack.push(Stale {
@@ -55,10 +55,10 @@ fn settle_next(
     stack: &mut SmallVec<Stale, 1>,
     listed: &Places,
     facts: &Facts,
-    stale: Stale,
+    stale: &Stale,
 ) -> Result<(), AllocError>
     requires { ShowsBut changes.old listed.now live.old (state_of_facts facts.now)
-        (stack.old.items ++ stale ∷ []) }
+        (stack.old.items ++ stale.now ∷ []) }
     ensures frames { OnOk result (AreFrames (state_of_facts facts.now) changes.new.own.entries) }
     ensures live { OnOk result (ListsLive (state_of_facts facts.now)
         (cached_in changes.new.own.entries) live.new) }
@@ -67,33 +67,24 @@ fn settle_next(
     ensures settled { OnOk result (AreSettledBut (state_of_facts facts.now)
         (cached_in changes.new.own.entries) stack.new.items) }
     ensures weight { OnOk result (weight (base_of listed.now) stack.new.items
-        < weight (base_of listed.now) (stack.old.items ++ stale ∷ [])) }
+        < weight (base_of listed.now) (stack.old.items ++ stale.now ∷ [])) }
 {
     if stale.first >= stale.end {
         return Ok(());
     }
-    let given = given_at(changes, facts, stale.id, stale.first);
+    let id = stale.id;
+    let given = given_at(changes, facts, id, stale.first);
     let limit = stale.end.min(given.end);
-    let replaced = replace(changes, stale.id, stale.first, limit, given.change)?;
+    let Change { rights, shift } = given.change;
+    let replaced = replace(changes, id, stale.first, limit, Change { rights, shift })?;
     keep_rest(stack, stale, replaced.end)?;
     let Some(had_some) = replaced.had_some else {
         return Ok(());
     };
-    let run = Stale {
-        id: stale.id,
-        first: stale.first,
-        end: replaced.end,
-    };
-    follow_live(
-        live,
-        idle,
-        changes,
-        facts,
-        run,
-        given.change.rights,
-        had_some,
-    )?;
-    push_children(stack, listed, facts, run.id, run.first, run.end)
+    let (first, end) = (stale.first, replaced.end);
+    let run = Stale { id, first, end };
+    follow_live(live, idle, changes, facts, run, rights, had_some)?;
+    push_children(stack, listed, facts, id, first, end)
 }
 
 /// Settles what is stale, until nothing is. The names of records that lost all their rights are
@@ -113,7 +104,7 @@ pub fn settle(
         (cached_in changes.new.own.entries) idle.new.items) }
 {
     'stale: while let Some(stale) = stack.pop() {
-        settle_next(changes, live, idle, stack, listed, facts, stale)?;
+        settle_next(changes, live, idle, stack, listed, facts, &stale)?;
     }
     Ok(())
 }

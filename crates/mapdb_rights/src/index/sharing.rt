@@ -59,23 +59,23 @@ fn put_in_order(names: &mut SmallVec<RecordId, 1>)
 
 /// Whether the record is the owner's and shares pages with the place: a space's by its place, a
 /// record's by its source.
-fn shares(owner: Owner, part: &Fpage, mapping: &Record) -> bool
+fn shares(owner: &Owner, part: &Fpage, mapping: &Record) -> bool
     requires { IsFormedRecord mapping.now }
-    ensures { result ≡ shares_part owner part.now mapping.now }
+    ensures { result ≡ shares_part owner.now part.now mapping.now }
 {
     match owner {
-        Owner::Space(space) => mapping.space.is(space) && mapping.place.meet(part).is_some(),
+        Owner::Space(space) => mapping.space.is(*space) && mapping.place.meet(part).is_some(),
         Owner::Record(parent) => {
             let source = mapping.place.moved_to(mapping.source);
-            mapping.parent.is(parent) && source.meet(part).is_some()
+            mapping.parent.is(*parent) && source.meet(part).is_some()
         }
     }
 }
 
 /// The record of a name, where it is the owner's and shares pages with the place.
-fn record_sharing(facts: &Facts, owner: Owner, part: &Fpage, id: RecordId) -> Option<Record>
+fn record_sharing(facts: &Facts, owner: &Owner, part: &Fpage, id: RecordId) -> Option<Record>
     ensures { result
-        ≡ record_if (shares_part owner part.now) ((state_of_facts facts.now).record_at id) }
+        ≡ record_if (shares_part owner.now part.now) ((state_of_facts facts.now).record_at id) }
 {
     match facts.record(id) {
         Some(mapping) if shares(owner, part, &mapping) => Some(mapping),
@@ -89,11 +89,11 @@ fn named_sharing(
     alloc: Global,
     names: &[RecordId],
     facts: &Facts,
-    owner: Owner,
+    owner: &Owner,
     part: &Fpage,
 ) -> Result<SmallVec<Record, 1>, AllocError>
     ensures { IfOk result (λ found. found.items ≡ filter_map
-        (λ id. record_if (shares_part owner part.now) ((state_of_facts facts.now).record_at id))
+        (λ id. record_if (shares_part owner.now part.now) ((state_of_facts facts.now).record_at id))
         names.now) }
 {
     let mut found = SmallVec::new(alloc);
@@ -123,5 +123,5 @@ pub(crate) fn all_sharing(
     ensures formed { IfOk result (λ found. All IsFormedRecord found.items) }
 {
     put_in_order(names);
-    named_sharing(alloc, names.as_slice(), facts, owner, part)
+    named_sharing(alloc, names.as_slice(), facts, &owner, part)
 }

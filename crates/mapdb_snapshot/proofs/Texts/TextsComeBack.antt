@@ -113,7 +113,7 @@ each_back write deepest (x ∷ xs) each =
 
 -- the two numbers of a name, before others
 name_small : (id : RecordId) (ns : List ℕ) → IsId id → AllSmall ns → AllSmall (id.number ∷ id.processor ∷ ns)
-name_small id ns is small = (is.number, (omega (arith, is.processor), small))
+name_small id ns is small = (omega (arith, is.number), (omega (arith, is.processor), small))
 
 -- the two numbers of a place, before others
 place_small : (place : Place) (ns : List ℕ) → IsPlace place → AllSmall ns → AllSmall (place.first_page ∷ place.order ∷ ns)

@@ -1,7 +1,7 @@
-use Rattle.std.proofs.Common.{arith, refl, sym, ◌∙◌}
+use Rattle.std.proofs.Common.{Some, ap, arith, refl, sym, ◌∙◌}
+use Rattle.mapdb_facts.specs.declared.names.RecordId.{RecordId}
 use Rattle.std.proofs.lemmas.Bool.{true≢false}
 use Rattle.std.proofs.lemmas.Option.{slice_get-get_or}
-use Rattle.mapdb_facts.specs.Names.{root}
 use Rattle.mapdb_facts.proofs.Maps.NamedCuts.{but_all, but_next, but_none}
 use Rattle.mapdb_facts.proofs.cuts_by_record.covers_all.Goals as goal
 
@@ -19,7 +19,7 @@ pub loop-id-preserved : goal.loop-id-preserved
 loop-id-preserved c =
     let cuts = c.args.cuts.now.entries in
     but_next cuts cuts c.args.other.now.entries c.as_slice-id-items.result.now c.loop-id.id-index _
-    (slice_get-get_or c.as_slice-id-items.result.now c.loop-id.id-index root c.loop-id-test.true) (λ p h. h)
+    (slice_get-get_or c.as_slice-id-items.result.now c.loop-id.id-index c.id-item.result c.loop-id-test.true ∙ ap (λ (id : RecordId). Some id) (sym c.id-item.is)) (λ p h. h)
     (c.covers_under.ensures.0 c.if-not-covers_under.false) c.loop-id.invariant
 
 pub returns : goal.returns

@@ -1,8 +1,8 @@
-use Rattle.std.proofs.Common.{arith, ◌∙◌}
+use Rattle.std.proofs.Common.{Some, ap, arith, sym, ◌∙◌}
+use Rattle.mapdb_facts.specs.declared.names.RecordId.{RecordId}
 use Rattle.std.proofs.lemmas.Option.{slice_get-get_or}
 use Rattle.std.proofs.lemmas.Result.{err_from_is_err_and}
 use Rattle.mapdb_join.proofs.Walking.{absent_from, held_from}
-use Rattle.mapdb_facts.specs.Names.{root}
 use Rattle.mapdb_facts.proofs.Maps.NamedCuts.{between_more, merged_all, merged_more, merged_none, merged_past}
 use Rattle.mapdb_facts.proofs.NameLemmas.NamesInOrder.{one_lookup}
 use Rattle.mapdb_facts.proofs.cuts_by_record.merge_all.Goals.{in-Some+in_ok-merge_under, in_default}
@@ -22,7 +22,7 @@ returns-in_err-merge_under-clause-err c =
 pub loop-id-preserved : goal.loop-id-preserved
 loop-id-preserved c =
     let names = c.as_slice-id-items.result.now in
-    let at = slice_get-get_or names c.loop-id.id-index root c.loop-id-test.true in
+    let at = slice_get-get_or names c.loop-id.id-index c.id-item.result c.loop-id-test.true ∙ ap (λ (id : RecordId). Some id) (sym c.id-item.is) in
     elim c.match-get.branch [
       | in-Some+in_ok-merge_under w ↦
           rw w.cuts-is (merged_more c.args.cuts.now.entries c.args.other.now.entries c.loop-id.cuts.entries w.merge_under.new.cuts.entries names c.loop-id.id-index _ w.in-Some.theirs.now

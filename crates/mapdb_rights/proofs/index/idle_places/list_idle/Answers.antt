@@ -18,9 +18,9 @@ loop-id-preserved c =
         ])
         | inl noted ↦ elim noted [
           | inl some ↦ inl (inl some)
-          | inr named ↦ elim (named_next c.args.names.now c.loop-id.id-index (record { number = 0; processor = 0 }) r.id c.loop-id-test.true named) [
+          | inr named ↦ elim (named_next c.args.names.now c.loop-id.id-index c.id-item.result r.id c.loop-id-test.true named) [
             | inr later ↦ inl (inr later)
-            | inl here ↦ inr (inr (done.there r (ap S.record_at here ∙ held)))
+            | inl here ↦ inr (inr (done.there r (ap S.record_at (c.id-item.is ∙ here) ∙ held)))
           ]
         ]
       ];

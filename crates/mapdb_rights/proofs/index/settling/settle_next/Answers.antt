@@ -21,11 +21,11 @@ use Rattle.mapdb_rights.proofs.index.settling.settle_next.Goals as goal
 
 pub returns-then-stale-clause-settled : goal.returns-then-stale-clause-settled
 returns-then-stale-clause-settled c =
-    step_empty (state_of_facts c.args.facts.now) (cached_in c.args.changes.now.own.entries) c.args.stack.now.items c.args.stale (omega arith) c.requires.settled
+    step_empty (state_of_facts c.args.facts.now) (cached_in c.args.changes.now.own.entries) c.args.stack.now.items c.args.stale.now (omega arith) c.requires.settled
 
 pub returns-then-stale-clause-weight : goal.returns-then-stale-clause-weight
 returns-then-stale-clause-weight c =
-    let last = weight-last (base_of c.args.listed.now) c.args.stack.now.items c.args.stale in omega (arith, last)
+    let last = weight-last (base_of c.args.listed.now) c.args.stack.now.items c.args.stale.now in omega (arith, last)
 
 pub returns-in_default-clause-frames : goal.returns-in_default-clause-frames
 returns-in_default-clause-frames c id page some =
@@ -50,9 +50,9 @@ returns-in_default-clause-settled c =
     let end = c.in_ok-replaced.replaced.end in
     let replaced = c.in_ok-replaced.ensures in
     subst (λ (cached : Cached). AreSettledBut S cached c.keep_rest.new.stack.items) (sym (still (kept c.in_default.is replaced.how)))
-    (step_settled S old old c.args.stack.now.items c.keep_rest.new.stack.items c.keep_rest.new.stack.items c.args.stale end
+    (step_settled S old old c.args.stack.now.items c.keep_rest.new.stack.items c.keep_rest.new.stack.items c.args.stale.now end
     c.requires.settled c.in_ok-keep_rest.ensures.pending c.in_ok-keep_rest.ensures.rest (λ id page pending. pending)
-    (λ id page before. inl (settled_already S old old c.args.stale.id c.args.stale.first end c.given_at-given.result.change.rights
+    (λ id page before. inl (settled_already S old old c.args.stale.now.id c.args.stale.now.first end c.given_at-given.result.change.rights
     (λ q from before_end. c.given_at-given.ensures.follows.rights q from (let w = replaced.within in omega (arith, w)))
     (kept c.in_default.is replaced.how).rights id page before)))
 
@@ -61,7 +61,7 @@ returns-in_default-clause-weight c =
     let replaced = c.in_ok-replaced.ensures in
     let w = replaced.within in
     let a = replaced.above in
-    weight_falls (listed_len c.args.listed.now) c.args.stack.now.items c.keep_rest.new.stack.items c.keep_rest.new.stack.items c.args.stale c.in_ok-replaced.replaced.end
+    weight_falls (listed_len c.args.listed.now) c.args.stack.now.items c.keep_rest.new.stack.items c.keep_rest.new.stack.items c.args.stale.now c.in_ok-replaced.replaced.end
     (omega (arith, a)) (omega (arith, w)) (c.in_ok-keep_rest.ensures.weight (base_of c.args.listed.now)) (omega arith)
 
 pub returns-clause-frames : goal.returns-clause-frames
@@ -69,7 +69,7 @@ returns-clause-frames c =
     let replaced = c.in_ok-replaced.ensures in
     let given = got c.in-Some.is replaced.how in
     on_any c.push_children.result
-    (frames_written (state_of_facts c.args.facts.now) c.args.changes.now.own.entries c.replace.new.changes.own.entries c.args.stale.id c.args.stale.first c.in_ok-replaced.replaced.end
+    (frames_written (state_of_facts c.args.facts.now) c.args.changes.now.own.entries c.replace.new.changes.own.entries c.args.stale.now.id c.args.stale.now.first c.in_ok-replaced.replaced.end
     c.given_at-given.result.change c.requires.frames
     (λ some q from before. c.given_at-given.ensures.follows.frames c.requires.frames some q from (let w = replaced.within in omega (arith, w)))
     given.seen)
@@ -78,9 +78,9 @@ pub follow_live-requires-clause-written : goal.follow_live-requires-clause-writt
 follow_live-requires-clause-written c =
     let replaced = c.in_ok-replaced.ensures in
     let given = got c.in-Some.is replaced.how in
-    sym (given.cached c.args.stale.id c.args.stale.first
-    ∙ cond-true (covers c.args.stale.id c.args.stale.first c.in_ok-replaced.replaced.end c.args.stale.id c.args.stale.first) _ _
-    (to_covers c.args.stale.id c.args.stale.first c.in_ok-replaced.replaced.end c.args.stale.first (omega arith) replaced.above))
+    sym (given.cached c.args.stale.now.id c.args.stale.now.first
+    ∙ cond-true (covers c.args.stale.now.id c.args.stale.now.first c.in_ok-replaced.replaced.end c.args.stale.now.id c.args.stale.now.first) _ _
+    (to_covers c.args.stale.now.id c.args.stale.now.first c.in_ok-replaced.replaced.end c.args.stale.now.first (omega arith) replaced.above))
 
 pub follow_live-requires-clause-before : goal.follow_live-requires-clause-before
 follow_live-requires-clause-before c =
@@ -89,7 +89,7 @@ follow_live-requires-clause-before c =
       before = cached_in c.args.changes.now.own.entries;
       listed = c.requires.live_there;
       others = λ other page apart. given.cached other page
-          ∙ cond-false (covers c.args.stale.id c.args.stale.first c.in_ok-replaced.replaced.end other page) _ _ (and_left _ _ apart);
+          ∙ cond-false (covers c.args.stale.now.id c.args.stale.now.first c.in_ok-replaced.replaced.end other page) _ _ (and_left _ _ apart);
       some = given.some;
       none = given.none;
     }
@@ -103,7 +103,7 @@ returns-clause-noted c =
     on_any c.push_children.result
     (c.in_ok-follow_live.ensures.noted (cached_in c.args.changes.now.own.entries) given.none
     (λ other page apart. given.cached other page
-    ∙ cond-false (covers c.args.stale.id c.args.stale.first c.in_ok-replaced.replaced.end other page) _ _ (and_left _ _ apart)))
+    ∙ cond-false (covers c.args.stale.now.id c.args.stale.now.first c.in_ok-replaced.replaced.end other page) _ _ (and_left _ _ apart)))
 
 pub returns-clause-settled : goal.returns-clause-settled
 returns-clause-settled c =
@@ -114,9 +114,9 @@ returns-clause-settled c =
     let replaced = c.in_ok-replaced.ensures in
     let given = got c.in-Some.is replaced.how in
     on_both c.push_children.result
-    (λ pushed later. step_settled S old new c.args.stack.now.items c.keep_rest.new.stack.items c.push_children.new.stack.items c.args.stale end
+    (λ pushed later. step_settled S old new c.args.stack.now.items c.keep_rest.new.stack.items c.push_children.new.stack.items c.args.stale.now end
     c.requires.settled c.in_ok-keep_rest.ensures.pending c.in_ok-keep_rest.ensures.rest later
-    (settled_after S old new c.args.stale.id c.args.stale.first end c.given_at-given.result.change.rights
+    (settled_after S old new c.args.stale.now.id c.args.stale.now.first end c.given_at-given.result.change.rights
     (λ q from before_end. c.given_at-given.ensures.follows.rights q from (let w = replaced.within in omega (arith, w)))
     given.cached c.requires.listed_there.named c.requires.listed_there.formed c.push_children.new.stack.items
     (λ other r held parent page inside from before.
@@ -135,6 +135,6 @@ returns-clause-weight c =
     let inside = replaced.within in
     let a = replaced.above in
     on_ok_weaker c.push_children.result
-    (λ w. weight_falls (listed_len c.args.listed.now) c.args.stack.now.items c.keep_rest.new.stack.items c.push_children.new.stack.items c.args.stale c.in_ok-replaced.replaced.end
+    (λ w. weight_falls (listed_len c.args.listed.now) c.args.stack.now.items c.keep_rest.new.stack.items c.push_children.new.stack.items c.args.stale.now c.in_ok-replaced.replaced.end
     (omega (arith, a)) (omega (arith, inside)) (c.in_ok-keep_rest.ensures.weight (base_of c.args.listed.now)) (w (base_of c.args.listed.now) (omega arith)))
     c.push_children.ensures.weight
